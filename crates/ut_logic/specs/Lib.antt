@@ -1,0 +1,4 @@
+pub mod Trit
+pub mod Text
+pub mod Escapes
+pub mod Node
