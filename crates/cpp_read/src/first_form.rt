@@ -1,0 +1,141 @@
+ghost use Rattle.std.specs.Prelude.{◌≡◌, ◌<◌, ◌≤◌, ◌++◌, length, option_to_list, OnOk, IfErr};
+ghost use Rattle.cpp_read.specs.FirstForm as spec;
+ghost use Rattle.cpp_read.specs.declared.bad.CppBad.TheVariants as bad;
+ghost use Rattle.cpp_read.specs.Refusals.{AnswersList};
+ghost use Rattle.cpp_read.specs.FirstReading.{Reads, Ends};
+
+use crate::bad::CppBad;
+use crate::condition::Cond;
+use crate::directive::{Directive, What};
+use crate::first_lines::{FirstLine, first_line};
+use crate::lines::split_line;
+use std::alloc::Global;
+use std::marker::Model;
+
+const MOST_DEPTH: usize = 250;
+const MOST_BLOCKS: u32 = 65_535;
+
+/// The chains that are open, and the number of blocks so far.
+#[derive(Drop)]
+struct FirstChains {
+    openers: Vec<u32>,
+    blocks: u32,
+}
+
+impl Model for FirstChains {
+    ghost use Rattle.std.specs.Prelude.{◌≤◌, reverse, length};
+    ghost use Rattle.cpp_read.specs.FirstForm.{Chains};
+
+    ghost Value = { Chains };
+
+    ghost view = { λ c. record { openers = reverse c.openers.items; blocks = c.blocks } };
+
+    ghost invariant = { λ c. c.blocks ≤ 65535 };
+}
+
+impl FirstChains {
+    fn new(alloc: Global) -> FirstChains
+        ensures { result ≡ spec.no_chains }
+    {
+        FirstChains {
+            openers: Vec::new(alloc),
+            blocks: 0,
+        }
+    }
+
+    fn is_full(&self) -> bool
+        ensures { result ≡ spec.is_full self.now }
+    {
+        self.openers.len() >= MOST_DEPTH || self.blocks >= MOST_BLOCKS
+    }
+
+    fn open(&mut self, line: u32, cond: Cond) -> Result<Option<Directive>, CppBad>
+        ensures { Reads result self.new (spec.opened line cond self.old) }
+    {
+        if self.is_full() {
+            return Err(CppBad::NotYet { line });
+        }
+        self.openers.push(line)?;
+        self.blocks += 1;
+        Ok(Some(Directive {
+            line,
+            what: What::If(cond),
+        }))
+    }
+
+    fn close(&mut self, line: u32) -> Result<Option<Directive>, CppBad>
+        ensures { Reads result self.new (spec.closed line self.old.blocks self.old.openers) }
+    {
+        match self.openers.pop() {
+            Some(_) => Ok(Some(Directive {
+                line,
+                what: What::Endif,
+            })),
+            None => Err(CppBad::NotYet { line }),
+        }
+    }
+
+    fn step(&mut self, line: u32, says: FirstLine) -> Result<Option<Directive>, CppBad>
+        ensures { Reads result self.new (spec.step line says self.old) }
+    {
+        match says {
+            FirstLine::Opens(cond) => self.open(line, cond),
+            FirstLine::Closes => self.close(line),
+            FirstLine::Plain => Ok(None),
+            FirstLine::Other => Err(CppBad::NotYet { line }),
+        }
+    }
+
+    fn read(
+        &mut self,
+        alloc: Global,
+        line: u32,
+        text: &[u8],
+    ) -> Result<Option<Directive>, CppBad>
+        ensures { Reads result self.new (spec.step line (spec.first_line text.now) self.old) }
+    {
+        let says = first_line(alloc, text)?;
+        self.step(line, says)
+    }
+
+    /// Whether no chain is open.
+    fn end(&self) -> Result<(), CppBad>
+        ensures { Ends result self.now.openers }
+    {
+        match self.openers.last() {
+            Some(line) => Err(CppBad::NotYet { line: *line }),
+            None => Ok(()),
+        }
+    }
+}
+
+/// Puts a line's directive, if it has one, behind the others.
+fn keep(list: &mut Vec<Directive>, directive: Option<Directive>) -> Result<(), CppBad>
+    ensures list { OnOk result (list.new.items ≡ list.old.items ++ option_to_list directive) }
+    ensures memory { IfErr result (λ e. e ≡ bad.Oom) }
+{
+    if let Some(directive) = directive {
+        list.push(directive)?;
+    }
+    Ok(())
+}
+
+/// The directives of a source of the first form.
+pub fn first_directives(alloc: Global, bytes: &[u8]) -> Result<Vec<Directive>, CppBad>
+    requires { length bytes.now ≤ 16777216 }
+    ensures { AnswersList result (spec.first_directives_of bytes.now) }
+{
+    let mut chains = FirstChains::new(alloc);
+    let mut list = Vec::new(alloc);
+    let mut rest = bytes;
+    let mut line = 1;
+    'lines: while !rest.is_empty() {
+        let (text, behind) = split_line(rest);
+        let directive = chains.read(alloc, line, text)?;
+        keep(&mut list, directive)?;
+        rest = behind;
+        line += 1;
+    }
+    chains.end()?;
+    Ok(list)
+}

@@ -1,0 +1,98 @@
+ghost use Rattle.std.specs.Prelude.{◌≡◌, ◌≤◌, ◌<◌, IsTrue, IfOk, true, length};
+ghost use Rattle.std.specs.List.{list_any, list_all};
+ghost use Rattle.cpp_read.specs.Names as names;
+ghost use Rattle.cpp_read.specs.FirstForm as spec;
+
+use crate::condition::Cond;
+use sqlite_items::Boxed;
+use std::alloc::{AllocError, Global};
+use ut_logic::Text;
+
+/// What a line of the first form says.
+#[derive(Drop)]
+pub enum FirstLine {
+    Opens(Cond),
+    Closes,
+    Plain,
+    Other,
+}
+
+fn is_letter(byte: u8) -> bool
+    ensures { result ≡ names.is_letter byte }
+{
+    byte.is_ascii_lowercase() || byte.is_ascii_uppercase() || byte == b'_'
+}
+
+fn is_name_byte(byte: u8) -> bool
+    ensures { result ≡ names.is_name_byte byte }
+{
+    is_letter(byte) || byte.is_ascii_digit()
+}
+
+fn are_name_bytes(text: &[u8]) -> bool
+    ensures { result ≡ list_all names.is_name_byte text.now }
+{
+    text.iter().all(|b| is_name_byte(*b))
+}
+
+fn is_name(text: &[u8]) -> bool
+    ensures { result ≡ names.is_name text.now }
+{
+    match text {
+        [first, rest @ ..] => is_letter(*first) && are_name_bytes(rest),
+        [] => false,
+    }
+}
+
+fn is_special(byte: u8) -> bool
+    ensures { result ≡ spec.is_special byte }
+{
+    byte == b'#' || byte == b'\\' || byte == b'"' || byte == b'\'' || byte == b'/'
+}
+
+fn holds_special(line: &[u8]) -> bool
+    ensures { result ≡ list_any spec.is_special line.now }
+{
+    line.iter().any(|b| is_special(*b))
+}
+
+fn asks(word: &[u8], line: &[u8]) -> bool
+    ensures { result ≡ spec.asks word.now line.now }
+{
+    line.starts_with(word) && is_name(&line[word.len()..])
+}
+
+fn name_text(alloc: Global, name: &[u8]) -> Result<Text, AllocError>
+    requires { names.is_name name.now ≡ true }
+    ensures { IfOk result (λ t. t ≡ name.now) }
+{
+    Text::of_bytes(alloc, name)
+}
+
+/// What a line says.
+pub fn first_line(alloc: Global, line: &[u8]) -> Result<FirstLine, AllocError>
+    ensures { IfOk result (λ f. f ≡ spec.first_line line.now) }
+{
+    if asks(b"#ifdef ".as_slice(), line) {
+        let name = name_text(alloc, &line[7..])?;
+        return Ok(FirstLine::Opens(Cond::Defined(name)));
+    }
+    if asks(b"#ifndef ".as_slice(), line) {
+        let name = name_text(alloc, &line[8..])?;
+        let defined = Boxed::new(alloc, Cond::Defined(name))?;
+        return Ok(FirstLine::Opens(Cond::Neg(defined)));
+    }
+    Ok(other_line(line))
+}
+
+fn other_line(line: &[u8]) -> FirstLine
+    ensures { result ≡ spec.other_line line.now }
+{
+    if line == b"#endif".as_slice() {
+        FirstLine::Closes
+    } else if holds_special(line) {
+        FirstLine::Other
+    } else {
+        FirstLine::Plain
+    }
+}

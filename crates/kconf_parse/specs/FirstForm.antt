@@ -1,0 +1,156 @@
+-- The first form of Kconfig texts that is read, and the line that is named where a text is not of this form.
+-- This project's rule; what is read means what Linux kconfig-language says of `config`, `bool` and `depends on`.
+use Rattle.std.specs.Prelude.{◌≡◌, ℕ, ◌+◌, ◌-◌, Bool, true, false, not, ◌==◌, ◌||◌, ◌&&◌, nat_eq, nat_le, bytes_eq, codes, length, take, drop, ◌++◌, Option, None, Some, Result, Ok, Err, List, [], ◌∷◌, if◌then◌else◌}
+use Rattle.std.specs.List.{list_any, list_all, prefix_len, starts_with}
+use Rattle.ut_logic.specs.Text.{text_eq}
+use Rattle.kconf_parse.specs.declared.entries.Kind.TheVariants as kind
+use Rattle.kconf_parse.specs.declared.entries.ConfigEntry.{ConfigEntry}
+use Rattle.kconf_parse.specs.declared.entries.Entries.{Entries}
+use Rattle.kconf_parse.specs.declared.first_form.Place.{Place}
+use Rattle.kconf_parse.specs.declared.first_form.Place.TheVariants.{Start, Heading, Entry}
+use Rattle.kconf_parse.specs.declared.first_lines.FirstLine.{FirstLine}
+use Rattle.kconf_parse.specs.declared.first_lines.FirstLine.TheVariants.{Config, Prompt, Depends, Other}
+use Rattle.kconf_parse.specs.Lines.{lines_of}
+use Rattle.kconf_parse.specs.Joined.{all_of_names}
+
+-- a capital letter
+abbrev pub is_capital : ℕ → Bool
+is_capital b = nat_le 65 b && nat_le b 90
+
+-- a letter, a digit or `_`
+abbrev pub is_name_byte : ℕ → Bool
+is_name_byte b = is_capital b || (nat_le 97 b && nat_le b 122) || (nat_le 48 b && nat_le b 57) || b == 95
+
+-- a name is a capital letter, followed by letters, digits and `_`
+abbrev pub is_name : List ℕ → Bool
+is_name [] = false
+is_name (b ∷ s) = is_capital b && list_all is_name_byte s
+
+-- a byte that a prompt's text holds: none of `"`, `'`, `\`, `$`
+abbrev pub is_text_byte : ℕ → Bool
+is_text_byte b = not (b == 34 || b == 39 || b == 92 || b == 36)
+
+-- a text, and the quote behind it that ends the line
+abbrev pub ends_quoted : List ℕ → Bool
+ends_quoted s = bytes_eq (drop (prefix_len is_text_byte s) s) (34 ∷ [])
+
+-- words are cut at spaces
+abbrev pub is_word_byte : ℕ → Bool
+is_word_byte b = not (b == 32)
+
+-- a byte in front of the first word
+abbrev pub onto_word : ℕ → List (List ℕ) → List (List ℕ)
+onto_word b [] = (b ∷ []) ∷ []
+onto_word b (w ∷ ws) = (b ∷ w) ∷ ws
+
+-- the words between single spaces
+abbrev pub words_of : List ℕ → List (List ℕ)
+words_of [] = [] ∷ []
+words_of (b ∷ s) = if b == 32 then [] ∷ words_of s else onto_word b (words_of s)
+
+-- a name in front of others
+abbrev pub with_name : List ℕ → Option (List (List ℕ)) → Option (List (List ℕ))
+with_name w None = None
+with_name w (Some ws) = Some (w ∷ ws)
+
+-- names joined by `&&`
+abbrev pub names_of : List (List ℕ) → Option (List (List ℕ))
+names_of [] = None
+names_of (w ∷ []) = if is_name w then Some (w ∷ []) else None
+names_of (w ∷ s ∷ ws) = if is_name w && bytes_eq s (codes "&&") then with_name w (names_of ws) else None
+
+-- a line of names, or another one
+abbrev pub depends_line : Option (List (List ℕ)) → FirstLine
+depends_line None = Other
+depends_line (Some names) = Depends names
+
+-- `config NAME`
+abbrev pub is_config : List ℕ → Bool
+is_config line = starts_with nat_eq line (codes "config ") && is_name (drop 7 line)
+
+-- a tab (byte 9) and `bool "TEXT"`
+abbrev pub is_prompt : List ℕ → Bool
+is_prompt line = starts_with nat_eq line (9 ∷ codes "bool \"") && ends_quoted (drop 7 line)
+
+-- a tab and `depends on `
+abbrev pub is_depends : List ℕ → Bool
+is_depends line = starts_with nat_eq line (9 ∷ codes "depends on ")
+
+-- what a line says
+abbrev pub first_line : List ℕ → FirstLine
+first_line line =
+    if is_config line then Config (drop 7 line)
+    else if is_prompt line then Prompt
+    else if is_depends line then depends_line (names_of (words_of (drop 12 line))) else Other
+
+-- the names that are declared so far, and the place: at the start, behind a `config` line, or in an entry
+pub record Reading : Type 0 where
+  pub declared : List (List ℕ)
+  pub place : Place
+
+-- what stands before the first line
+abbrev pub start : Reading
+start = record { declared = []; place = Start }
+
+-- the entry with this name that depends on these names
+abbrev pub entry_of : List ℕ → List (List ℕ) → ConfigEntry
+entry_of name needs = record {
+  name = name;
+  kind = kind.Bool;
+  depends = all_of_names needs;
+  prompts = all_of_names needs ∷ [];
+  defaults = [];
+  selects = [];
+  implies = [];
+  modules = false;
+  choice = None;
+}
+
+-- whether a name is declared
+abbrev pub is_declared : List (List ℕ) → List ℕ → Bool
+is_declared declared name = list_any (text_eq name) declared
+
+-- whether a name is that of an entry before the one with this name
+abbrev pub is_earlier : List (List ℕ) → List ℕ → List ℕ → Bool
+is_earlier declared own name = is_declared declared name && not (text_eq name own)
+
+-- a `config` line: its name is new, and it begins one of 4,096 entries
+abbrev pub heading : List (List ℕ) → List ℕ → List ConfigEntry → Option (Reading × List ConfigEntry)
+heading declared name done =
+    if is_declared declared name || nat_le 4096 (length declared) then None
+    else Some (record { declared = declared ++ name ∷ []; place = Heading name }, done)
+
+-- a line where the form allows it, and the entry that it ends
+abbrev pub step : List (List ℕ) → Place → FirstLine → Option (Reading × List ConfigEntry)
+step declared Start (Config new) = heading declared new []
+step declared (Heading name) Prompt = Some (record { declared = declared; place = Entry name [] }, [])
+step declared (Entry name needs) (Config new) = heading declared new (entry_of name needs ∷ [])
+step declared (Entry name needs) (Depends names) =
+    if list_all (is_earlier declared name) names then Some (record { declared = declared; place = Entry name (needs ++ names) }, []) else None
+step declared place line = None
+
+-- a line that the form does not allow is named
+abbrev pub at_line : {A : Type 0} → ℕ → Option A → Result A ℕ
+at_line n None = Err n
+at_line n (Some x) = Ok x
+
+-- what is read next, unless a line is named
+infixl 10 ◌>>=◌
+abbrev pub ◌>>=◌ : {A B : Type 0} → Result A ℕ → (A → Result B ℕ) → Result B ℕ
+(Ok x) >>= f = f x
+(Err n) >>= f = Err n
+
+-- the end of the text: no line is missing, or the `config` line before it is named
+abbrev pub at_end : ℕ → Place → Result (List ConfigEntry) ℕ
+at_end n Start = Ok []
+at_end n (Heading name) = Err (n - 1)
+at_end n (Entry name needs) = Ok (entry_of name needs ∷ [])
+
+-- the entries of the lines from number n on, or the number of the line that is named
+abbrev pub read_lines : ℕ → Reading → List (List ℕ) → Result (List ConfigEntry) ℕ
+read_lines n r [] = at_end n r.place
+read_lines n r (l ∷ ls) = at_line n (step r.declared r.place (first_line l)) >>= λ x. read_lines (n + 1) x.0 ls >>= λ es. Ok (x.1 ++ es)
+
+-- the entries of a text of the form, which has no choices, or the number of the line that is named
+abbrev pub first_tree_of : List ℕ → Result Entries ℕ
+first_tree_of bytes = read_lines 1 start (lines_of bytes) >>= λ es. Ok (record { configs = es; choices = [] })

@@ -1,0 +1,19 @@
+//! Kconfig texts.
+//!
+//! In goes the text of one root file, out come its entries in order, whose conditions hold the inherited
+//! ones, or the first bad line. The rules are those of the Linux document kconfig-language.
+//!
+//! A contract sees a text as its bytes and an entry with its expressions as plain data.
+#![tactic(auto)]
+
+mod bad;
+mod entries;
+mod expr;
+mod first_form;
+mod first_lines;
+mod lines;
+
+pub use bad::{KconfBad, SyntaxKind};
+pub use entries::{ChoiceEntry, ConfigEntry, DefaultOf, Entries, Kind, SelectOf, Var};
+pub use expr::{Expr, Side, Sign};
+pub use first_form::first_tree;
