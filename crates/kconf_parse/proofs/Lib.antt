@@ -1,2 +1,5 @@
 pub mod LinesLemmas
 pub mod NamesLemmas
+pub mod FirstLinesLemmas
+pub mod FirstFormLemmas
+pub mod FirstFileLemmas

@@ -53,11 +53,12 @@ abbrev pub with_name : List ℕ → Option (List (List ℕ)) → Option (List (L
 with_name w None = None
 with_name w (Some ws) = Some (w ∷ ws)
 
--- names joined by `&&`
-abbrev pub names_of : List (List ℕ) → Option (List (List ℕ))
-names_of [] = None
-names_of (w ∷ []) = if is_name w then Some (w ∷ []) else None
-names_of (w ∷ s ∷ ws) = if is_name w && bytes_eq s (codes "&&") then with_name w (names_of ws) else None
+-- names joined by `&&`: where a name is wanted one stands, and behind it the end or `&&`
+abbrev pub names_from : Bool → List (List ℕ) → Option (List (List ℕ))
+names_from true [] = None
+names_from true (w ∷ ws) = if is_name w then with_name w (names_from false ws) else None
+names_from false [] = Some []
+names_from false (w ∷ ws) = if bytes_eq w (codes "&&") then names_from true ws else None
 
 -- a line of names, or another one
 abbrev pub depends_line : Option (List (List ℕ)) → FirstLine
@@ -81,7 +82,7 @@ abbrev pub first_line : List ℕ → FirstLine
 first_line line =
     if is_config line then Config (drop 7 line)
     else if is_prompt line then Prompt
-    else if is_depends line then depends_line (names_of (words_of (drop 12 line))) else Other
+    else if is_depends line then depends_line (names_from true (words_of (drop 12 line))) else Other
 
 -- the names that are declared so far, and the place: at the start, behind a `config` line, or in an entry
 pub record Reading : Type 0 where
@@ -114,19 +115,32 @@ is_declared declared name = list_any (text_eq name) declared
 abbrev pub is_earlier : List (List ℕ) → List ℕ → List ℕ → Bool
 is_earlier declared own name = is_declared declared name && not (text_eq name own)
 
--- a `config` line: its name is new, and it begins one of 4,096 entries
-abbrev pub heading : List (List ℕ) → List ℕ → List ConfigEntry → Option (Reading × List ConfigEntry)
-heading declared name done =
-    if is_declared declared name || nat_le 4096 (length declared) then None
-    else Some (record { declared = declared ++ name ∷ []; place = Heading name }, done)
+-- the entry that ends at a place, if one does; behind a `config` line none may end
+abbrev pub ended : Place → Option (List ConfigEntry)
+ended Start = Some []
+ended (Heading name) = None
+ended (Entry name needs) = Some (entry_of name needs ∷ [])
+
+-- whether a name cannot begin one more entry: it is declared, or there are 4,096 entries
+abbrev pub is_refused : List (List ℕ) → List ℕ → Bool
+is_refused declared name = is_declared declared name || nat_le 4096 (length declared)
+
+-- a `config` line behind the entry that it ends
+abbrev pub heading : List (List ℕ) → List ℕ → Option (List ConfigEntry) → Option (Reading × List ConfigEntry)
+heading declared name None = None
+heading declared name (Some done) =
+    if is_refused declared name then None else Some (record { declared = declared ++ name ∷ []; place = Heading name }, done)
+
+-- a line of names, each of them that of an earlier entry
+abbrev pub needing : List (List ℕ) → List ℕ → List (List ℕ) → List (List ℕ) → Option (Reading × List ConfigEntry)
+needing declared name needs names =
+    if list_all (is_earlier declared name) names then Some (record { declared = declared; place = Entry name (needs ++ names) }, []) else None
 
 -- a line where the form allows it, and the entry that it ends
 abbrev pub step : List (List ℕ) → Place → FirstLine → Option (Reading × List ConfigEntry)
-step declared Start (Config new) = heading declared new []
+step declared place (Config new) = heading declared new (ended place)
 step declared (Heading name) Prompt = Some (record { declared = declared; place = Entry name [] }, [])
-step declared (Entry name needs) (Config new) = heading declared new (entry_of name needs ∷ [])
-step declared (Entry name needs) (Depends names) =
-    if list_all (is_earlier declared name) names then Some (record { declared = declared; place = Entry name (needs ++ names) }, []) else None
+step declared (Entry name needs) (Depends names) = needing declared name needs names
 step declared place line = None
 
 -- a line that the form does not allow is named
@@ -140,11 +154,9 @@ abbrev pub ◌>>=◌ : {A B : Type 0} → Result A ℕ → (A → Result B ℕ) 
 (Ok x) >>= f = f x
 (Err n) >>= f = Err n
 
--- the end of the text: no line is missing, or the `config` line before it is named
+-- the entry that the end of the text ends, or the `config` line before it is named
 abbrev pub at_end : ℕ → Place → Result (List ConfigEntry) ℕ
-at_end n Start = Ok []
-at_end n (Heading name) = Err (n - 1)
-at_end n (Entry name needs) = Ok (entry_of name needs ∷ [])
+at_end n place = at_line (n - 1) (ended place)
 
 -- the entries of the lines from number n on, or the number of the line that is named
 abbrev pub read_lines : ℕ → Reading → List (List ℕ) → Result (List ConfigEntry) ℕ

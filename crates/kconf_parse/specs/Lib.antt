@@ -2,4 +2,6 @@ pub mod Lines
 pub mod LineEnds
 pub mod Joined
 pub mod FirstForm
+pub mod FirstWords
 pub mod FirstReading
+pub mod FirstFile

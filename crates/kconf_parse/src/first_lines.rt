@@ -1,6 +1,7 @@
 ghost use Rattle.std.specs.Prelude.{◌≡◌, ◌≤◌, ◌<◌, ◌∷◌, map, true, IfOk, length};
 ghost use Rattle.std.specs.List.{list_all, prefix_len};
 ghost use Rattle.kconf_parse.specs.FirstForm as spec;
+ghost use Rattle.kconf_parse.specs.FirstWords.{later_words, Takes};
 
 use sqlite_items::Items;
 use std::alloc::{AllocError, Global};
@@ -111,7 +112,7 @@ pub fn first_line(alloc: Global, line: &[u8]) -> Result<FirstLine, AllocError>
 }
 
 fn depends_line(alloc: Global, text: &[u8]) -> Result<FirstLine, AllocError>
-    ensures { IfOk result (λ f. f ≡ spec.depends_line (spec.names_of (spec.words_of text.now))) }
+    ensures { IfOk result (λ f. f ≡ spec.depends_line (spec.names_from true (spec.words_of text.now))) }
 {
     let words = words_of(alloc, text)?;
     match names_of(alloc, &words)? {
@@ -134,6 +135,23 @@ fn word_len(text: &[u8]) -> usize
     count
 }
 
+/// The first word, and what stands behind it.
+fn split_word(text: &[u8]) -> (&[u8], &[u8])
+    ensures words { spec.words_of text.now ≡ result.0.now ∷ later_words result.1.now }
+    ensures within { length result.1.now ≤ length text.now }
+{
+    text.split_at(word_len(text))
+}
+
+/// What stands behind the space at the front.
+fn behind_space(text: &[u8]) -> &[u8]
+    requires { 0 < length text.now }
+    ensures words { spec.words_of result.now ≡ later_words text.now }
+    ensures shorter { length result.now < length text.now }
+{
+    &text[1..]
+}
+
 /// The words between single spaces.
 fn words_of(alloc: Global, text: &[u8]) -> Result<Vec<&[u8]>, AllocError>
     ensures { IfOk result (λ v. map (λ t. t.now) v.items ≡ spec.words_of text.now) }
@@ -141,39 +159,49 @@ fn words_of(alloc: Global, text: &[u8]) -> Result<Vec<&[u8]>, AllocError>
     let mut list = Vec::new(alloc);
     let mut rest = text;
     'words: loop {
-        let (word, behind) = rest.split_at(word_len(rest));
+        let (word, behind) = split_word(rest);
         list.push(word)?;
-        match behind {
-            [_, more @ ..] => rest = more,
-            [] => break 'words,
+        if behind.is_empty() {
+            break 'words;
         }
+        rest = behind_space(behind);
     }
     Ok(list)
 }
 
 /// The names that these words join by `&&`.
 fn names_of(alloc: Global, words: &[&[u8]]) -> Result<Option<Items<Text>>, AllocError>
-    ensures { IfOk result (λ o. o ≡ spec.names_of (map (λ t. t.now) words.now)) }
+    ensures { IfOk result (λ o. o ≡ spec.names_from true (map (λ t. t.now) words.now)) }
 {
     let mut names = Items::new(alloc);
-    let mut rest = words;
-    'names: loop {
-        match rest {
-            [name] => {
-                if !is_name(name) {
-                    return Ok(None);
-                }
-                names.push(name_text(alloc, name)?)?;
-                return Ok(Some(names));
-            }
-            [name, sign, more @ ..] => {
-                if !is_name(name) || *sign != b"&&".as_slice() {
-                    return Ok(None);
-                }
-                names.push(name_text(alloc, name)?)?;
-                rest = more;
-            }
-            [] => return Ok(None),
+    let mut wants_name = true;
+    for word in words {
+        if !takes_word(alloc, wants_name, word, &mut names)? {
+            return Ok(None);
         }
+        wants_name = !wants_name;
     }
+    if wants_name {
+        return Ok(None);
+    }
+    Ok(Some(names))
+}
+
+/// Whether a word stands where one like it is wanted; a name goes behind the others.
+fn takes_word(
+    alloc: Global,
+    wants_name: bool,
+    word: &[u8],
+    names: &mut Items<Text>,
+) -> Result<bool, AllocError>
+    ensures { IfOk result (λ ok. Takes wants_name word.now names.old names.new ok) }
+{
+    if !wants_name {
+        return Ok(word == b"&&".as_slice());
+    }
+    if !is_name(word) {
+        return Ok(false);
+    }
+    names.push(name_text(alloc, word)?)?;
+    Ok(true)
 }

@@ -9,11 +9,13 @@
 mod bad;
 mod entries;
 mod expr;
+mod first_file;
 mod first_form;
 mod first_lines;
+mod joined;
 mod lines;
 
 pub use bad::{KconfBad, SyntaxKind};
 pub use entries::{ChoiceEntry, ConfigEntry, DefaultOf, Entries, Kind, SelectOf, Var};
 pub use expr::{Expr, Side, Sign};
-pub use first_form::first_tree;
+pub use first_file::first_tree;
