@@ -1,3 +1,4 @@
 pub mod NamesLemmas
 pub mod LinesLemmas
 pub mod FirstFormLemmas
+pub mod FirstBadLineLemmas

@@ -4,3 +4,4 @@ pub mod Lines
 pub mod LineEnds
 pub mod FirstForm
 pub mod FirstReading
+pub mod FirstBadLine

@@ -3,3 +3,4 @@ pub mod NamesLemmas
 pub mod FirstLinesLemmas
 pub mod FirstFormLemmas
 pub mod FirstFileLemmas
+pub mod FirstBadLineLemmas

@@ -5,3 +5,4 @@ pub mod FirstForm
 pub mod FirstWords
 pub mod FirstReading
 pub mod FirstFile
+pub mod FirstBadLine
