@@ -1,16 +1,15 @@
 -- The line that is named: an induction on the lines, from any number and any open chains.
-use Rattle.std.proofs.Common.{◌≡◌, ℕ, suc, ◌+◌, ◌-◌, ◌≤◌, ◌<◌, ◌⊎◌, inl, inr, ◌∷◌, ◌++◌, List, [], Bool, true, false, length, take, codes, refl, ap, sym, subst, ◌∙◌, arith}
+use Rattle.std.proofs.Common.{◌≡◌, ℕ, suc, ◌+◌, ◌-◌, ◌<◌, ◌⊎◌, inl, inr, ◌∷◌, ◌++◌, List, [], Bool, true, false, length, take, codes, refl, ap, sym, ◌∙◌, arith}
 use Rattle.std.specs.Prelude.{Result, Ok, Err}
 use Rattle.cpp_read.specs.declared.bad.CppBad.{CppBad}
 use Rattle.cpp_read.specs.declared.bad.CppBad.TheVariants.{NotYet}
-use Rattle.cpp_read.specs.declared.condition.Cond.{Cond}
 use Rattle.cpp_read.specs.declared.directive.What.TheVariants.{Endif}
 use Rattle.cpp_read.specs.declared.directive.Directive.{Directive}
 use Rattle.cpp_read.specs.declared.first_lines.FirstLine.{FirstLine}
 use Rattle.cpp_read.specs.declared.first_lines.FirstLine.TheVariants.{Opens, Closes, Plain, Other}
 use Rattle.cpp_read.specs.Lines.{lines_of}
 use Rattle.cpp_read.specs.FirstForm.{Chains, no_chains, first_line, is_full, opened, closed, step, at_end, read_lines, first_directives_of}
-use Rattle.cpp_read.specs.FirstBadLine.{IsOfForm, CanGoOn, IsFirstWrong, chains_behind, EndsOpen, IsNamed}
+use Rattle.cpp_read.specs.FirstBadLine.{chains_behind, IsNamed}
 use Rattle.cpp_read.specs.Refusals.{◌>>=◌}
 
 Reads : ℕ → Chains → List (List ℕ) → Type 0
@@ -150,8 +149,8 @@ named n c (l ∷ ls) k h = by (step n (first_line l) c) refl (λ x. named (n + 1
         let is : k ≡ n = cc (first, stopped, h) in
         inl (record { place = 0; is = omega (arith, is); within = omega arith; before = at_start n c; behind = goes_none n c l e p })
     by (Ok x) p f = elim (f x (later x.1 (read_lines (n + 1) x.0 ls) (NotYet k) (sym (then_read n c l ls x p) ∙ h))) [
-      inl s ↦ inl (stops_later n c l ls k x p s) |
-      inr s ↦ inr (leaves_later n c l ls k x p s)
+      | inl s ↦ inl (stops_later n c l ls k x p s)
+      | inr s ↦ inr (leaves_later n c l ls k x p s)
     ]
 
 only : (n : ℕ) (c : Chains) (ls : List (List ℕ)) (e : CppBad) → read_lines n c ls ≡ Err e → (k : ℕ) × (e ≡ NotYet k)
@@ -176,11 +175,11 @@ only_not_yet bytes bad h = only 1 no_chains (lines_of bytes) bad h
 pub is_named : (bytes : List ℕ) (n : ℕ) → first_directives_of bytes ≡ Err (NotYet n) → IsNamed (lines_of bytes) n
 unfolding Reads GoesOn
 is_named bytes n h = elim (named 1 no_chains (lines_of bytes) n h) [
-  inl s ↦ inl (record {
+  | inl s ↦ inl (record {
     counted = omega (arith, s.is);
     within = omega (arith, s.is, s.within);
     before = let e : n - 1 ≡ s.place = omega (arith, s.is) in rw e s.before;
     behind = let e : n ≡ suc s.place = omega (arith, s.is) in rw e s.behind;
-  }) |
-  inr s ↦ inr (record { goes_on = s.goes_on; chains = s.chains; open_ones = s.open_ones; others = s.others; innermost = s.innermost })
+  })
+  | inr s ↦ inr (record { goes_on = s.goes_on; chains = s.chains; open_ones = s.open_ones; others = s.others; innermost = s.innermost })
 ]

@@ -1,5 +1,5 @@
 -- Laws of the first form: one more line is read.
-use Rattle.std.proofs.Common.{◌≡◌, ℕ, ◌+◌, ◌∷◌, ◌++◌, List, [], append_assoc, refl, ap, sym, ◌∙◌}
+use Rattle.std.proofs.Common.{◌≡◌, ℕ, ◌+◌, ◌∷◌, ◌++◌, List, append_assoc, refl, ap, sym, ◌∙◌}
 use Rattle.std.specs.Prelude.{Result, Ok, Err}
 use Rattle.cpp_read.specs.declared.bad.CppBad.{CppBad}
 use Rattle.cpp_read.specs.declared.directive.Directive.{Directive}

@@ -1,5 +1,5 @@
 -- Laws of lines: the first line of a text, and what stands behind it.
-use Rattle.std.proofs.Common.{◌≡◌, ◌<◌, ◌≤◌, ◌∷◌, ◌&&◌, ◌||◌, ◌==◌, ◌+◌, ℕ, suc, Bool, true, false, cond, List, [], length, take, drop, drop-cons, add-one, get_or, refl, ap, sym, ◌∙◌, arith}
+use Rattle.std.proofs.Common.{◌≡◌, ◌<◌, ◌∷◌, ◌&&◌, ◌==◌, ◌+◌, ℕ, suc, Bool, true, false, List, [], length, take, drop, drop-cons, add-one, refl, ap, arith}
 use Rattle.std.proofs.lemmas.Bool.{false≢true}
 use Rattle.std.proofs.lemmas.Grind.{common_steps}
 use Rattle.cpp_read.specs.Lines.{begins_newline, onto_first, lines_of}
@@ -41,6 +41,7 @@ rest_shorter (b ∷ s) h = by (b == 10) (b == 13 && begins_newline s) refl refl 
     last : (t : List ℕ) → (0 < length t → length (behind_end (drop (line_len t) t)) < length t) → length (behind_end (drop (line_len t) t)) < suc (length t)
     last [] f = omega arith
     last (c ∷ t) f = omega (arith, f (omega arith))
+
     by : (x y : Bool) → (b == 10) ≡ x → (b == 13 && begins_newline s) ≡ y → (t : List ℕ) → (0 < length s → length (behind_end (drop (line_len s) s)) < length s)
         → length (behind_end (drop (line_len (b ∷ s)) (b ∷ s))) < length (b ∷ s)
     by true y p q t f = rw (p, p) (omega arith)

@@ -1,11 +1,11 @@
 -- Names are ASCII, so that their texts are their bytes.
-use Rattle.std.proofs.Common.{◌≡◌, ◌<◌, ◌≤◌, ◌∷◌, ◌++◌, ◌&&◌, ◌||◌, ◌==◌, ℕ, Bool, true, false, cond, List, [], refl, ap, arith}
-use Rattle.std.specs.Prelude.{nat_le, nat_lt}
+use Rattle.std.proofs.Common.{◌≡◌, ◌∷◌, ◌++◌, ◌&&◌, ℕ, Bool, true, false, List, [], refl, arith}
+use Rattle.std.specs.Prelude.{nat_lt}
 use Rattle.std.specs.List.{list_all}
 use Rattle.std.proofs.lemmas.Bool.{false≢true}
 use Rattle.std.proofs.lemmas.Grind.{common_steps}
 use Rattle.ut_logic.specs.Escapes.{escape, escaped}
-use Rattle.cpp_read.specs.Names.{is_letter, is_digit, is_name_byte, is_name}
+use Rattle.cpp_read.specs.Names.{is_letter, is_name_byte, is_name}
 
 -- a byte of a name is below 128
 low : (b : ℕ) → is_name_byte b ≡ true → nat_lt b 128 ≡ true

@@ -1,6 +1,6 @@
 -- The first form of C sources that is read, and the line that is named where a source is not of this form.
 -- This project's rule; what is read means what ISO C, "Conditional inclusion", says.
-use Rattle.std.specs.Prelude.{◌≡◌, ℕ, ◌+◌, Bool, false, not, ◌==◌, ◌||◌, ◌&&◌, nat_le, nat_eq, bytes_eq, codes, length, drop, ◌++◌, Result, Ok, Err, List, [], ◌∷◌, if◌then◌else◌}
+use Rattle.std.specs.Prelude.{ℕ, ◌+◌, Bool, ◌==◌, ◌||◌, ◌&&◌, nat_le, nat_eq, bytes_eq, codes, length, drop, ◌++◌, Result, Ok, Err, List, [], ◌∷◌, if◌then◌else◌}
 use Rattle.std.specs.List.{list_any, starts_with}
 use Rattle.cpp_read.specs.declared.bad.CppBad.{CppBad}
 use Rattle.cpp_read.specs.declared.bad.CppBad.TheVariants.{NotYet}

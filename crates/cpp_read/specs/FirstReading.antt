@@ -1,5 +1,5 @@
 -- What the readers of the first form promise each other.
-use Rattle.std.specs.Prelude.{◌≡◌, ℕ, ◌++◌, Option, option_to_list, Result, Ok, Err, List, [], ◌∷◌}
+use Rattle.std.specs.Prelude.{◌≡◌, ℕ, ◌++◌, Option, option_to_list, Result, Ok, Err, List, []}
 use Rattle.cpp_read.specs.declared.bad.CppBad.{CppBad}
 use Rattle.cpp_read.specs.declared.directive.Directive.{Directive}
 use Rattle.cpp_read.specs.FirstForm.{Chains, at_end}

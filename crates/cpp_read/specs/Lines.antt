@@ -1,6 +1,6 @@
 -- The lines of a text: it is cut at newline bytes, and a carriage return directly before a newline belongs to
 -- it. What stands behind the last newline is a line where it is not empty. Rule: ISO C, "Translation phases".
-use Rattle.std.specs.Prelude.{ℕ, suc, Bool, false, ◌==◌, ◌&&◌, ◌||◌, List, [], ◌∷◌, if◌then◌else◌}
+use Rattle.std.specs.Prelude.{ℕ, Bool, false, ◌==◌, ◌&&◌, List, [], ◌∷◌, if◌then◌else◌}
 
 -- whether a text begins with a newline
 abbrev pub begins_newline : List ℕ → Bool

@@ -13,6 +13,7 @@ use std::alloc::Global;
 use std::marker::Model;
 
 const MOST_DEPTH: usize = 250;
+
 const MOST_BLOCKS: u32 = 65_535;
 
 /// The chains that are open, and the number of blocks so far.
@@ -86,12 +87,7 @@ impl FirstChains {
         }
     }
 
-    fn read(
-        &mut self,
-        alloc: Global,
-        line: u32,
-        text: &[u8],
-    ) -> Result<Option<Directive>, CppBad>
+    fn read(&mut self, alloc: Global, line: u32, text: &[u8]) -> Result<Option<Directive>, CppBad>
         ensures { Reads result self.new (spec.step line (spec.first_line text.now) self.old) }
     {
         let says = first_line(alloc, text)?;

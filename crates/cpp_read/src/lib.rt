@@ -21,3 +21,6 @@ pub use directive::{Directive, Gives, What};
 pub use first_form::first_directives;
 pub use first_laws::first_bad_line_is_named;
 pub use token::Token;
+
+#[cfg(test)]
+mod tests;

@@ -1,5 +1,5 @@
 -- The line that is named: an induction on the lines, from any number and place.
-use Rattle.std.proofs.Common.{◌≡◌, ℕ, suc, ◌+◌, ◌-◌, ◌≤◌, ◌<◌, ◌⊎◌, inl, inr, ◌∷◌, ◌++◌, ◌||◌, List, [], Bool, true, false, length, take, codes, refl, ap, sym, subst, ◌∙◌, arith}
+use Rattle.std.proofs.Common.{◌≡◌, ℕ, suc, ◌+◌, ◌-◌, ◌≤◌, ◌<◌, ◌⊎◌, inl, inr, ◌∷◌, ◌++◌, List, [], Bool, true, false, length, take, codes, refl, ap, sym, ◌∙◌, arith}
 use Rattle.std.specs.Prelude.{Option, None, Some, Result, Ok, Err}
 use Rattle.std.specs.List.{list_all}
 use Rattle.kconf_parse.specs.declared.entries.ConfigEntry.{ConfigEntry}
@@ -7,10 +7,10 @@ use Rattle.kconf_parse.specs.declared.entries.Entries.{Entries}
 use Rattle.kconf_parse.specs.declared.first_form.Place.{Place}
 use Rattle.kconf_parse.specs.declared.first_form.Place.TheVariants.{Start, Heading, Entry}
 use Rattle.kconf_parse.specs.declared.first_lines.FirstLine.{FirstLine}
-use Rattle.kconf_parse.specs.declared.first_lines.FirstLine.TheVariants.{Config, Prompt, Depends, Other}
+use Rattle.kconf_parse.specs.declared.first_lines.FirstLine.TheVariants.{Config, Prompt, Depends}
 use Rattle.kconf_parse.specs.Lines.{lines_of}
-use Rattle.kconf_parse.specs.FirstForm.{Reading, start, first_line, step, at_end, ended, entry_of, heading, needing, is_refused, is_earlier, at_line, read_lines, first_tree_of, ◌>>=◌}
-use Rattle.kconf_parse.specs.FirstBadLine.{IsOfForm, CanGoOn, IsFirstWrong, EndsInConfig, EndsBehindConfig, IsNamed}
+use Rattle.kconf_parse.specs.FirstForm.{Reading, start, first_line, step, at_end, entry_of, is_earlier, read_lines, first_tree_of, ◌>>=◌}
+use Rattle.kconf_parse.specs.FirstBadLine.{EndsInConfig, IsNamed}
 
 Reads : ℕ → Reading → List (List ℕ) → Type 0
 Reads n r ls = (es : List ConfigEntry) × (read_lines n r ls ≡ Ok es)
@@ -145,8 +145,8 @@ named n r (l ∷ ls) k one h = by (step r.declared r.place (first_line l)) refl 
         let is : k ≡ n = cc (stopped, h) in
         inl (record { place = 0; is = omega (arith, is); within = omega arith; before = at_start n r; behind = goes_none n r l p })
     by (Some x) p f = elim (f x (later x.1 (read_lines (n + 1) x.0 ls) k (sym (then_read n r l ls x p) ∙ h))) [
-      inl s ↦ inl (stops_later n r l ls k x p s) |
-      inr s ↦ inr (ends_later n r l ls k x p s)
+      | inl s ↦ inl (stops_later n r l ls k x p s)
+      | inr s ↦ inr (ends_later n r l ls k x p s)
     ]
 
 in_config : (ls : List (List ℕ)) → EndsInConfig ls ⊎ IsBehind start ls → EndsInConfig ls
@@ -158,6 +158,7 @@ whole bytes n h = by (read_lines 1 start (lines_of bytes)) h
   where
     tree_of : List ConfigEntry → Result Entries ℕ
     tree_of es = Ok (record { configs = es; choices = [] })
+
     by : (read : Result (List ConfigEntry) ℕ) → (read >>= tree_of) ≡ Err n → read ≡ Err n
     by (Ok es) q = cc
     by (Err e) q = cc
@@ -165,11 +166,11 @@ whole bytes n h = by (read_lines 1 start (lines_of bytes)) h
 pub is_named : (bytes : List ℕ) (n : ℕ) → first_tree_of bytes ≡ Err n → IsNamed (lines_of bytes) n
 unfolding Reads GoesOn
 is_named bytes n h = elim (named 1 start (lines_of bytes) n (omega arith) (whole bytes n h)) [
-  inl s ↦ inl (record {
+  | inl s ↦ inl (record {
     counted = omega (arith, s.is);
     within = omega (arith, s.is, s.within);
     before = let e : n - 1 ≡ s.place = omega (arith, s.is) in rw e s.before;
     behind = let e : n ≡ suc s.place = omega (arith, s.is) in rw e s.behind;
-  }) |
-  inr s ↦ inr (record { goes_on = s.goes_on; last = omega (arith, s.last); config = in_config (lines_of bytes) s.config })
+  })
+  | inr s ↦ inr (record { goes_on = s.goes_on; last = omega (arith, s.last); config = in_config (lines_of bytes) s.config })
 ]

@@ -1,6 +1,6 @@
 -- A file that was not taken leaves the meter as it was.
-use Rattle.std.proofs.Common.{◌≡◌, ◌≤◌, ◌<◌, ◌+◌, ℕ, List, arith}
-use Rattle.std.specs.Prelude.{Result, Ok, Err}
+use Rattle.std.proofs.Common.{ℕ, List, arith}
+use Rattle.std.specs.Prelude.{Err}
 use Rattle.ut_base.specs.Meter.{TakesWithin}
 use Rattle.ut_base.specs.declared.limits.Limit.TheVariants as limit
 use Rattle.ut_base.specs.declared.meter.TakeBad.{TakeBad}

@@ -1,5 +1,5 @@
 -- Laws of the lines of the first form: words are cut one after another, and names are read so.
-use Rattle.std.proofs.Common.{◌≡◌, ℕ, suc, ◌+◌, ◌∷◌, ◌++◌, ◌==◌, Bool, true, false, List, [], length, take, drop, append_assoc, refl, ap, sym, ◌∙◌, arith}
+use Rattle.std.proofs.Common.{◌≡◌, ℕ, suc, ◌+◌, ◌∷◌, ◌++◌, ◌==◌, Bool, true, false, List, [], take, drop, append_assoc, refl, ap, sym, ◌∙◌, arith}
 use Rattle.std.specs.Prelude.{Option, None, Some}
 use Rattle.std.specs.List.{prefix_len}
 use Rattle.kconf_parse.specs.FirstForm.{is_word_byte, onto_word, words_of, with_name, names_from, is_name}
@@ -15,6 +15,7 @@ first_at (b ∷ s) = by (b == 32) refl (first_at s)
   where
     next : 1 + prefix_len is_word_byte s ≡ suc (prefix_len is_word_byte s)
     next = omega arith
+
     by : (x : Bool) → (b == 32) ≡ x → FirstWord s (prefix_len is_word_byte s) → FirstWord (b ∷ s) (prefix_len is_word_byte (b ∷ s))
     by true e f = rw e refl
     by false e f = rw e (rw next (ap (onto_word b) f))

@@ -2,7 +2,6 @@
 -- This project's rule: 16,777,216 bytes for one file and 536,870,912 for all files of a run.
 use Rattle.std.specs.Prelude.{◌≡◌, ◌<◌, ◌≤◌, ◌+◌, ℕ, List, length, Option, Some, None, Result, Ok, Err}
 use Rattle.ut_base.specs.Outside.{IsLonger}
-use Rattle.ut_base.specs.declared.limits.Limit.{Limit}
 use Rattle.ut_base.specs.declared.limits.Limit.TheVariants as limit
 use Rattle.ut_base.specs.declared.meter.TakeBad.{TakeBad}
 use Rattle.ut_base.specs.declared.meter.TakeBad.TheVariants as take

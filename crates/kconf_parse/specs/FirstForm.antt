@@ -1,6 +1,6 @@
 -- The first form of Kconfig texts that is read, and the line that is named where a text is not of this form.
 -- This project's rule; what is read means what Linux kconfig-language says of `config`, `bool` and `depends on`.
-use Rattle.std.specs.Prelude.{◌≡◌, ℕ, ◌+◌, ◌-◌, Bool, true, false, not, ◌==◌, ◌||◌, ◌&&◌, nat_eq, nat_le, bytes_eq, codes, length, take, drop, ◌++◌, Option, None, Some, Result, Ok, Err, List, [], ◌∷◌, if◌then◌else◌}
+use Rattle.std.specs.Prelude.{ℕ, ◌+◌, ◌-◌, Bool, true, false, not, ◌==◌, ◌||◌, ◌&&◌, nat_eq, nat_le, bytes_eq, codes, length, drop, ◌++◌, Option, None, Some, Result, Ok, Err, List, [], ◌∷◌, if◌then◌else◌}
 use Rattle.std.specs.List.{list_any, list_all, prefix_len, starts_with}
 use Rattle.ut_logic.specs.Text.{text_eq}
 use Rattle.kconf_parse.specs.declared.entries.Kind.TheVariants as kind

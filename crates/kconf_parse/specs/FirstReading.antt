@@ -1,10 +1,10 @@
 -- What the readers of the first form promise each other.
-use Rattle.std.specs.Prelude.{◌≡◌, ℕ, ◌++◌, Option, None, Some, option_to_list, Result, Ok, Err, List, [], ◌∷◌}
+use Rattle.std.specs.Prelude.{◌≡◌, ℕ, ◌++◌, Option, None, Some, option_to_list, Result, Ok, Err, List}
 use Rattle.kconf_parse.specs.declared.entries.ConfigEntry.{ConfigEntry}
 use Rattle.kconf_parse.specs.declared.entries.Entries.{Entries}
 use Rattle.kconf_parse.specs.declared.first_form.FirstBad.{FirstBad}
 use Rattle.kconf_parse.specs.declared.first_form.FirstBad.TheVariants.{NotYet, Oom}
-use Rattle.kconf_parse.specs.FirstForm.{Reading, ◌>>=◌, first_tree_of}
+use Rattle.kconf_parse.specs.FirstForm.{Reading, ◌>>=◌}
 
 -- the entry that ends at a place, or this line is named
 abbrev pub Finishes : Result (Option ConfigEntry) FirstBad → ℕ → Option (List ConfigEntry) → Type 0

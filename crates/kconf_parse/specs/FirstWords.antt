@@ -1,5 +1,5 @@
 -- What the readers of words promise each other.
-use Rattle.std.specs.Prelude.{◌≡◌, ℕ, ◌++◌, Bool, true, false, not, Option, None, Some, List, [], ◌∷◌, if◌then◌else◌}
+use Rattle.std.specs.Prelude.{◌≡◌, ℕ, ◌++◌, Bool, not, Option, None, Some, List, [], ◌∷◌, if◌then◌else◌}
 use Rattle.kconf_parse.specs.FirstForm.{words_of, names_from}
 
 -- the words behind the first one, of what stands behind it

@@ -1,6 +1,7 @@
 -- The lines of a text: it is cut at newline bytes, and a carriage return directly before a newline belongs to
--- it. What stands behind the last newline is a line where it is not empty. Rule: Linux kconfig-language, and this project's for the carriage return.
-use Rattle.std.specs.Prelude.{ℕ, suc, Bool, false, ◌==◌, ◌&&◌, ◌||◌, List, [], ◌∷◌, if◌then◌else◌}
+-- it. What stands behind the last newline is a line where it is not empty. Rule: Linux kconfig-language; what is
+-- done with a carriage return is this project's.
+use Rattle.std.specs.Prelude.{ℕ, Bool, false, ◌==◌, ◌&&◌, List, [], ◌∷◌, if◌then◌else◌}
 
 -- whether a text begins with a newline
 abbrev pub begins_newline : List ℕ → Bool

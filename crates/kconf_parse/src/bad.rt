@@ -32,25 +32,46 @@ pub enum SyntaxKind {
 pub enum KconfBad {
     /// The line has this fault.
     #[error("line {line}: syntax")]
-    Syntax { file: Name, line: u32, kind: SyntaxKind },
+    Syntax {
+        file: Name,
+        line: u32,
+        kind: SyntaxKind,
+    },
     /// A form that is not read yet.
     #[error("line {line}: not yet")]
-    NotYet { file: Name, line: u32 },
+    NotYet {
+        file: Name,
+        line: u32,
+    },
     /// There is no such file.
     #[error("missing")]
-    Missing { file: Name },
+    Missing {
+        file: Name,
+    },
     /// The file could not be read.
     #[error("read fault")]
-    ReadFault { file: Name },
+    ReadFault {
+        file: Name,
+    },
     /// A macro call where its value is wanted.
     #[error("line {line}: macro")]
-    Macro { file: Name, line: u32 },
+    Macro {
+        file: Name,
+        line: u32,
+    },
     /// The line passes a limit on nesting.
     #[error("line {line}: limit")]
-    Depth { file: Name, line: u32, what: Limit },
+    Depth {
+        file: Name,
+        line: u32,
+        what: Limit,
+    },
     /// The texts have more bytes than this limit allows; `count` is how many.
     #[error("limit: {count}")]
-    TooLarge { what: Limit, count: u64 },
+    TooLarge {
+        what: Limit,
+        count: u64,
+    },
     /// There is not enough memory.
     #[error("memory")]
     Oom,

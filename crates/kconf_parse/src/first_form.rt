@@ -136,7 +136,12 @@ impl FirstReader {
     }
 
     /// A `config` line.
-    fn config(&mut self, alloc: Global, line: u32, name: Text) -> Result<Option<ConfigEntry>, FirstBad>
+    fn config(
+        &mut self,
+        alloc: Global,
+        line: u32,
+        name: Text,
+    ) -> Result<Option<ConfigEntry>, FirstBad>
         ensures { Steps result line self.new (spec.heading self.old.declared name (spec.ended self.old.place)) }
     {
         let place = mem::replace(&mut self.place, Place::Start);
@@ -192,7 +197,12 @@ impl FirstReader {
         Ok(None)
     }
 
-    fn step(&mut self, alloc: Global, line: u32, says: FirstLine) -> Result<Option<ConfigEntry>, FirstBad>
+    fn step(
+        &mut self,
+        alloc: Global,
+        line: u32,
+        says: FirstLine,
+    ) -> Result<Option<ConfigEntry>, FirstBad>
         ensures { Steps result line self.new (spec.step self.old.declared self.old.place says) }
     {
         match says {
@@ -203,7 +213,12 @@ impl FirstReader {
         }
     }
 
-    fn read(&mut self, alloc: Global, line: u32, text: &[u8]) -> Result<Option<ConfigEntry>, FirstBad>
+    fn read(
+        &mut self,
+        alloc: Global,
+        line: u32,
+        text: &[u8],
+    ) -> Result<Option<ConfigEntry>, FirstBad>
         ensures { Steps result line self.new (spec.step self.old.declared self.old.place (spec.first_line text.now)) }
     {
         let says = first_line(alloc, text)?;

@@ -21,3 +21,6 @@ pub use entries::{ChoiceEntry, ConfigEntry, DefaultOf, Entries, Kind, SelectOf, 
 pub use expr::{Expr, Side, Sign};
 pub use first_file::first_tree;
 pub use first_laws::first_bad_line_is_named;
+
+#[cfg(test)]
+mod tests;

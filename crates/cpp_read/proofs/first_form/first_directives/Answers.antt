@@ -1,4 +1,4 @@
-use Rattle.std.proofs.Common.{◌≡◌, ◌+◌, ◌≤◌, refl, arith}
+use Rattle.std.proofs.Common.{arith}
 use Rattle.std.specs.Prelude.{option_to_list}
 use Rattle.cpp_read.specs.Lines.{lines_of}
 use Rattle.cpp_read.specs.FirstForm.{first_directives_of}

@@ -1,4 +1,4 @@
-use Rattle.std.proofs.Common.{◌≡◌, ◌∙◌, refl, subst, arith}
+use Rattle.std.proofs.Common.{◌∙◌, refl}
 use Rattle.cpp_read.proofs.LinesLemmas.{first_line, rest_shorter}
 use Rattle.cpp_read.proofs.lines.split_line.Goals as goal
 

@@ -1,5 +1,3 @@
-use Rattle.std.proofs.Common.{◌≡◌, rules}
-use Rattle.ut_base.specs.Meter.{TakesWithin}
 use Rattle.kconf_parse.proofs.FirstFileLemmas.{refused_within}
 use Rattle.kconf_parse.proofs.first_file.first_tree.Goals as goal
 

@@ -1,4 +1,4 @@
-use Rattle.std.proofs.Common.{◌≡◌, ◌+◌, ◌≤◌, refl, arith}
+use Rattle.std.proofs.Common.{arith}
 use Rattle.std.specs.Prelude.{option_to_list}
 use Rattle.kconf_parse.specs.Lines.{lines_of}
 use Rattle.kconf_parse.specs.FirstForm.{read_lines, start}

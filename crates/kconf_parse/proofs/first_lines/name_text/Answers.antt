@@ -1,4 +1,4 @@
-use Rattle.std.proofs.Common.{◌≡◌, IfOk, ◌∙◌}
+use Rattle.std.proofs.Common.{◌∙◌}
 use Rattle.std.proofs.lemmas.Result.{IfOk-weaker}
 use Rattle.kconf_parse.proofs.NamesLemmas.{name_kept}
 use Rattle.kconf_parse.proofs.first_lines.name_text.Goals as goal

@@ -1,4 +1,4 @@
-use Rattle.std.proofs.Common.{◌≡◌, ◌∙◌, refl, arith}
+use Rattle.std.proofs.Common.{◌∙◌, refl}
 use Rattle.kconf_parse.proofs.FirstLinesLemmas.{first_word}
 use Rattle.kconf_parse.proofs.first_lines.split_word.Goals as goal
 

@@ -1,4 +1,4 @@
-use Rattle.std.proofs.Common.{◌≡◌, ◌∙◌, refl, subst, arith}
+use Rattle.std.proofs.Common.{◌∙◌, refl}
 use Rattle.kconf_parse.proofs.LinesLemmas.{first_line, rest_shorter}
 use Rattle.kconf_parse.proofs.lines.split_line.Goals as goal
 
