@@ -4,6 +4,9 @@ use std::test::Fail;
 
 /// The line of a `NotYet`, or 0 where the text is of the form.
 fn refused(alloc: Global, text: &str) -> Result<u32, Fail> {
+    if text.len() > 16_777_216 {
+        return Err(Fail::from("a text that is too long"));
+    }
     match first_directives(alloc, text.as_bytes()) {
         Ok(_) => Ok(0),
         Err(CppBad::NotYet { line }) => Ok(line),

@@ -69,7 +69,9 @@ fn entries_and_faults(rt: HostRuntime) -> Result<(), Fail> {
     assert!(rt; configs[2].name.text() == "C");
     assert!(rt; matches!(&configs[0].depends, Expr::Const(Trit::Y)));
     assert!(rt; matches!(&configs[1].depends, Expr::Name(_)));
-    assert!(rt; matches!(&configs[2].prompts.as_slice()[0], Expr::And(list) if list.len() == 3));
+    assert!(rt;
+        matches!(configs[2].prompts.as_slice().first(), Some(Expr::And(list)) if list.len() == 3)
+    );
     assert!(rt; meter.used() == text.len() as u64);
     let failed = first_tree(alloc, &mut files, &root, &mut meter);
     assert!(rt; matches!(failed, Err(KconfBad::ReadFault { .. })));
