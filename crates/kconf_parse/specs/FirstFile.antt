@@ -12,10 +12,11 @@ use Rattle.kconf_parse.specs.declared.first_form.FirstBad.{FirstBad}
 use Rattle.kconf_parse.specs.declared.first_form.FirstBad.TheVariants as first
 use Rattle.kconf_parse.specs.FirstForm.{first_tree_of}
 
--- the file's bytes read so
+-- the file's bytes, which are no more than one file may have, read so
 pub record ReadsHeld (content : Option (List ℕ)) (read : Result Entries ℕ) : Type 0 where
   pub bytes : List ℕ
   pub held : content ≡ Some bytes
+  pub file : length bytes ≤ 16777216
   pub reads : first_tree_of bytes ≡ read
 
 -- the answer for a root text whose bytes, if there is such a file, are these
