@@ -1,4 +1,10 @@
 pub mod Trit
 pub mod Text
 pub mod Escapes
+pub mod Item
 pub mod Node
+pub mod Clauses
+pub mod Variables
+pub mod Keys
+pub mod ItemIdentity
+pub mod NodeIdentity

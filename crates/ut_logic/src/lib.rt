@@ -4,11 +4,17 @@
 //! list of its elements.
 #![tactic(auto)]
 
+mod cnf;
+mod item;
+mod literals;
 mod node;
 mod sequence;
 mod text;
 mod trit;
 
+pub use cnf::Cnf;
+pub use item::Item;
+pub use literals::{Clause, Lit, are_ordered};
 pub use node::Node;
 pub use sequence::Sequence;
 pub use text::Text;
