@@ -1,0 +1,4 @@
+pub mod PlaceLaws
+pub mod AddedLaws
+pub mod Progress
+pub mod KnownLaws

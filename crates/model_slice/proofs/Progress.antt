@@ -1,0 +1,128 @@
+-- The search for what is reached: what it keeps, and what it has in the end.
+use Rattle.std.proofs.Common.{◌≡◌, ℕ, ◌+◌, ◌-◌, ◌≤◌, ◌<◌, Bool, true, false, ◌||◌, List, [], ◌∷◌, length, take, get_or, refl, sym, ap, subst, ◌∙◌, ◌⊎◌, inl, inr, ⊎_elim, rules, arith, cond}
+use Rattle.std.proofs.lemmas.Grind.{common_steps}
+use Rattle.std.proofs.lemmas.List.{take_more, take_all, length-map}
+use Rattle.std.proofs.lemmas.List.Folds.{list_any-append, list_any-from_Any}
+use Rattle.std.proofs.lemmas.Map.Made.{length-le_from_is_member}
+use Rattle.std.proofs.lemmas.List.Sorted.{list_any-IsPermutation}
+use Rattle.std.proofs.lemmas.List.Filters.{dedup_is}
+use Rattle.std.proofs.lemmas.List.Kept.{IsStrictlySortedBy-dedup}
+use Rattle.std.specs.List.{IsDistinct, dedup, dedup_from}
+use Rattle.std.specs.List.Retain.{IsFiltered, DiffersFromLast}
+use Rattle.std.specs.List.Sorted.{IsPermutation, IsSorted, IsStrictlySortedBy}
+use Rattle.ut_logic.specs.declared.node.Node.{Node}
+use Rattle.ut_logic.specs.declared.facts.Fact.{Fact}
+use Rattle.ut_logic.specs.Node.{node_eq, node_cmp, node_total}
+use Rattle.model_slice.specs.Closed.{has, names_of, nodes_of, HasAll, IsClosed, IsLeastClosed, AreKnown}
+use Rattle.model_slice.specs.Found.{added}
+use Rattle.model_slice.proofs.AddedLaws.{laws, has-added, distinct_added, length_le-added, take-added}
+
+-- those before `at` have all that they name
+pub record Progress (facts : List Fact) (from found : List Node) (at : ℕ) : Type 0 where
+  pub in_range : at ≤ length found
+  pub distinct : IsDistinct node_eq found
+  pub roots : HasAll (has found) from
+  pub done : (n m : Node) → has (take at found) n ≡ true → has (names_of facts n) m ≡ true → has found m ≡ true
+  pub least : (q : Node → Bool) → HasAll q from → IsClosed facts q → HasAll q found
+  pub known : HasAll (has (nodes_of facts)) found
+
+either : (a b : Bool) → (a || b) ≡ true → (a ≡ true) ⊎ (b ≡ true)
+either true b h = inl refl
+either false b h = inr h
+
+left : (a b : Bool) → a ≡ true → (a || b) ≡ true
+left a b h = grind (arith, common_steps)
+
+right : (a b : Bool) → b ≡ true → (a || b) ≡ true
+right true b h = refl
+right false b h = h
+
+pub names_alike : (facts : List Fact) (a b : Node) → node_eq a b ≡ true → names_of facts a ≡ names_of facts b
+names_alike [] a b h = refl
+names_alike (f ∷ fs) a b h = grind (arith, common_steps, laws.congr a b f.node h, laws.symm f.node a, laws.symm f.node b, names_alike fs a b h)
+
+pub start : (facts : List Fact) (from : List Node) → AreKnown facts from → Progress facts from (added [] from) 0
+unfolding IsDistinct
+start facts from k = record {
+  in_range = omega arith;
+  distinct = distinct_added [] from tt;
+  roots = λ n h. has-added [] from n ∙ h;
+  done = λ n m h g. search rules;
+  least = λ q r c n h. r n (sym (has-added [] from n) ∙ h);
+  known = λ n h. k.rooted n (sym (has-added [] from n) ∙ h);
+}
+
+pub smaller : (facts : List Fact) (from found : List Node) (at : ℕ) → Progress facts from found at → at < length found → length facts - (at + 1) < length facts - at
+smaller facts from found at p h = omega (arith, length-le_from_is_member laws found (nodes_of facts) p.distinct p.known, length-map (facts) (λ (f : Fact). f.node))
+
+has_at : (xs : List Node) (k : ℕ) (n : Node) → k < length xs → get_or xs k n ≡ n → has xs n ≡ true
+has_at xs k n h e = list_any-from_Any (node_eq n) xs (k, n, h, e, laws.refl n)
+
+module _ (facts : List Fact) (from found : List Node) (at : ℕ) (k : AreKnown facts from) (p : Progress facts from found at) (h : at < length found) (n : Node) (e : (d : Node) → get_or found at d ≡ n) where
+  abbrev more : List Node
+  more = names_of facts n
+
+  abbrev next : List Node
+  next = added found more
+
+  in_next : (x : Node) → has next x ≡ true → (has found x ≡ true) ⊎ (has more x ≡ true)
+  in_next x g = either (has found x) (has more x) (sym (has-added found more x) ∙ g)
+
+  old : (x : Node) → has found x ≡ true → has next x ≡ true
+  old x g = has-added found more x ∙ left (has found x) (has more x) g
+
+  new : (x : Node) → has more x ≡ true → has next x ≡ true
+  new x g = has-added found more x ∙ right (has found x) (has more x) g
+
+  in_front : (x : Node) → has (take (at + 1) next) x ≡ true → (has (take at found) x ≡ true) ⊎ (node_eq x n ≡ true)
+  in_front x g = either (has (take at found) x) (node_eq x n) (sym same ∙ g)
+    where
+      same : has (take (at + 1) next) x ≡ (has (take at found) x || node_eq x n)
+      same = rw (take-added found more (at + 1) (omega arith), take_more found at n h, e n) (list_any-append (node_eq x) (take at found) (n ∷ []) ∙ grind (arith, common_steps))
+
+  pub step : Progress facts from next (at + 1)
+  step = record {
+    in_range = omega (arith, length_le-added found more);
+    distinct = distinct_added found more p.distinct;
+    roots = λ x g. old x (p.roots x g);
+    done = λ x m g i. ⊎_elim (λ a. old m (p.done x m a i)) (λ b. new m (ap (λ ns. has ns m) (sym (names_alike facts x n b)) ∙ i)) (in_front x g);
+    least = λ q r c x g. ⊎_elim (p.least q r c x) (c n x (p.least q r c n (has_at found at n h (e n)))) (in_next x g);
+    known = λ x g. ⊎_elim (p.known x) (k.named n x) (in_next x g);
+  }
+
+-- ---- in order
+
+has-dedup_from : (n : Node) (ns : List Node) (q : Node) → has (dedup_from node_eq n ns) q ≡ (node_eq q n || has ns q)
+has-dedup_from n [] q = refl
+has-dedup_from n (m ∷ ns) q = by (node_eq m n) refl (has-dedup_from n ns q) (has-dedup_from m ns q)
+  where
+    by : (b : Bool) → node_eq m n ≡ b → has (dedup_from node_eq n ns) q ≡ (node_eq q n || has ns q) → has (dedup_from node_eq m ns) q ≡ (node_eq q m || has ns q)
+        → has (cond b (dedup_from node_eq n ns) (n ∷ dedup_from node_eq m ns)) q ≡ (node_eq q n || (node_eq q m || has ns q))
+    by true h f g = f ∙ grind (arith, common_steps, laws.congr m n q h, laws.symm q m, laws.symm q n)
+    by false h f g = ap (λ b. node_eq q n || b) g
+
+has-dedup : (ns : List Node) (q : Node) → has (dedup node_eq ns) q ≡ has ns q
+has-dedup [] q = refl
+has-dedup (n ∷ ns) q = has-dedup_from n ns q
+
+pub same_members : (xs ys zs : List Node) → IsPermutation xs ys → IsFiltered (DiffersFromLast node_eq) [] ys zs → (q : Node) → has zs q ≡ has xs q
+same_members xs ys zs p f q = ap (λ ns. has ns q) (dedup_is node_eq ys zs f) ∙ (has-dedup ys q ∙ sym (list_any-IsPermutation (node_eq q) xs ys p))
+
+pub strictly : (ys zs : List Node) → IsSorted node_cmp ys → IsFiltered (DiffersFromLast node_eq) [] ys zs → IsStrictlySortedBy node_cmp zs
+strictly ys zs s f = subst (IsStrictlySortedBy node_cmp) (sym (dedup_is node_eq ys zs f)) (IsStrictlySortedBy-dedup node_total (λ x y. refl) ys s)
+
+-- where all that was found is done, it is the least closed set
+pub finished : (facts : List Fact) (from found : List Node) (at : ℕ) → Progress facts from found at → length found ≤ at → IsLeastClosed facts from found
+finished facts from found at p h = record {
+  rooted = p.roots;
+  closed = λ n m g i. p.done n m (subst (λ ns. has ns n ≡ true) (sym (take_all at found h)) g) i;
+  least = p.least;
+}
+
+-- the same nodes in another order are as well
+pub same_set : (facts : List Fact) (from xs ys : List Node) → ((q : Node) → has ys q ≡ has xs q) → IsLeastClosed facts from xs → IsLeastClosed facts from ys
+same_set facts from xs ys same l = record {
+  rooted = λ n h. same n ∙ l.rooted n h;
+  closed = λ n m h g. same m ∙ l.closed n m (sym (same n) ∙ h) g;
+  least = λ q r c n h. l.least q r c n (sym (same n) ∙ h);
+}

@@ -1,0 +1,10 @@
+-- What is left decides.
+use Rattle.std.proofs.Common.{◌≡◌, drop}
+use Rattle.std.specs.List.{list_all}
+use Rattle.ut_logic.specs.declared.facts.Fact.{Fact}
+use Rattle.model_slice.specs.Closed.{names_of}
+use Rattle.model_slice.specs.Found.{has_fact}
+use Rattle.model_slice.proofs.known.name_facts.Given as goal
+
+abbrev pub invariant-loop-fact : goal.invariant-loop-fact
+invariant-loop-fact l = list_all (λ (f : Fact). list_all (has_fact l.facts.list) (names_of l.facts.list f.node)) l.facts.list ≡ list_all (λ (f : Fact). list_all (has_fact l.facts.list) (names_of l.facts.list f.node)) (drop l.fact-index l.fact-items)
