@@ -1,0 +1,56 @@
+-- The blocks of a list of directives: block 0 is the file, and each `#if`, `#elif` and `#else` begins
+-- the next one, whose parent is the block round its chain.
+-- Rule: ISO C, "Conditional inclusion"; the numbers are this project's rule.
+use Rattle.std.specs.Prelude.{ℕ, List, [], ◌∷◌, ◌++◌, ◌-◌, suc, length, get_or}
+use Rattle.cpp_read.specs.declared.directive.Directive.{Directive}
+use Rattle.cpp_read.specs.declared.directive.What.{What}
+use Rattle.cpp_read.specs.declared.directive.What.TheVariants.{If, Elif, Else, Endif}
+
+-- the innermost open block, where `inside` lists the open ones but the file, innermost first
+abbrev pub innermost : List ℕ → ℕ
+innermost [] = 0
+innermost (block ∷ inside) = block
+
+-- the open blocks round the innermost one
+abbrev pub outside : List ℕ → List ℕ
+outside [] = []
+outside (block ∷ inside) = inside
+
+-- the open blocks behind a directive, where `next` is the number of the next block
+abbrev pub open_behind : ℕ → List ℕ → What → List ℕ
+open_behind next inside (If cond) = next ∷ inside
+open_behind next inside (Elif cond) = next ∷ outside inside
+open_behind next inside Else = next ∷ outside inside
+open_behind next inside Endif = outside inside
+open_behind next inside what = inside
+
+-- the parent of the block that a directive begins, if it begins one
+abbrev pub parent_at : List ℕ → What → List ℕ
+parent_at inside (If cond) = innermost inside ∷ []
+parent_at inside (Elif cond) = innermost (outside inside) ∷ []
+parent_at inside Else = innermost (outside inside) ∷ []
+parent_at inside what = []
+
+-- the number of the next block behind a directive
+abbrev pub next_behind : ℕ → What → ℕ
+next_behind next (If cond) = suc next
+next_behind next (Elif cond) = suc next
+next_behind next Else = suc next
+next_behind next what = next
+
+-- the parents of the blocks, in order from block 1
+abbrev pub parents_from : ℕ → List ℕ → List Directive → List ℕ
+parents_from next inside [] = []
+parents_from next inside (d ∷ ds) = parent_at inside d.what ++ parents_from (next_behind next d.what) (open_behind next inside d.what) ds
+
+-- the parents of all blocks of a source
+abbrev pub parents_of : List Directive → List ℕ
+parents_of ds = parents_from 1 [] ds
+
+-- the number of blocks without block 0
+abbrev pub count_of : List Directive → ℕ
+count_of ds = length (parents_of ds)
+
+-- the parent of a block from 1 to the count
+abbrev pub parent_of : List Directive → ℕ → ℕ
+parent_of ds block = get_or (parents_of ds) (block - 1) 0

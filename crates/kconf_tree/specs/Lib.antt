@@ -1,0 +1,5 @@
+pub mod Shape
+pub mod Gathered
+pub mod Value
+pub mod Properties
+pub mod Valid

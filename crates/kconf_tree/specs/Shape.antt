@@ -1,0 +1,88 @@
+-- What contracts see of a tree: symbols and choices in order of first declaration, each with its
+-- properties, and the outer conditions; and what names and numbers stand for in it.
+-- Rule: Linux kconfig-language, "Menu attributes" and "Menu structure"; the numbers are this project's rule.
+use Rattle.std.specs.Prelude.{ℕ, ◌==◌, Bool, false, List, [], ◌∷◌, ◌++◌, Option, None, Some, if◌then◌else◌, position, get_or, suc, is_some}
+use Rattle.ut_logic.specs.Text.{text_eq}
+use Rattle.kconf_parse.specs.declared.entries.SelectOf.{SelectOf}
+use Rattle.kconf_parse.specs.declared.entries.Kind.{Kind}
+use Rattle.kconf_parse.specs.declared.entries.Kind.TheVariants as kind
+use Rattle.kconf_tree.specs.declared.shape.Symbol.{Symbol}
+use Rattle.kconf_tree.specs.declared.shape.Choice.{Choice}
+use Rattle.kconf_tree.specs.declared.shape.Selector.{Selector}
+use Rattle.kconf_tree.specs.declared.shape.Counts.{Counts}
+use Rattle.kconf_tree.specs.declared.shape.Counts.TheVariants as counts
+
+-- the tree, with the texts of its outer conditions and the number of its modules symbol
+pub record Shape : Type 0 where
+  pub symbols : List Symbol
+  pub choices : List Choice
+  pub outers : List (List ℕ)
+  pub modules : Option ℕ
+
+-- behind the last symbol there is nothing
+abbrev pub no_symbol : Symbol
+no_symbol = record { name = []; kind = kind.Untyped; member_of = None; places = []; prompts = []; defaults = []; selects = [] }
+
+-- likewise a choice
+abbrev pub no_choice : Choice
+no_choice = record { kind = kind.Bool; members = []; prompts = []; defaults = []; optional = false }
+
+-- the symbol with a number
+abbrev pub symbol_at : Shape → ℕ → Symbol
+symbol_at t k = get_or t.symbols k no_symbol
+
+-- the choice with a number
+abbrev pub choice_at : Shape → ℕ → Choice
+choice_at t i = get_or t.choices i no_choice
+
+-- the number of a declared name
+abbrev pub number_of : Shape → List ℕ → Option ℕ
+number_of t name = position (λ s. text_eq s.name name) t.symbols
+
+-- the number of an outer condition's text
+abbrev pub outer_at : Shape → List ℕ → Option ℕ
+outer_at t text = position (λ o. text_eq o text) t.outers
+
+-- the optional number is this one
+abbrev pub is_the : Option ℕ → ℕ → Bool
+is_the None k = false
+is_the (Some j) k = j == k
+
+-- a symbol that is a member of a choice
+abbrev pub is_member : Shape → ℕ → Bool
+is_member t k = is_some (symbol_at t k).member_of
+
+-- what a type counts as, by itself
+abbrev pub counts_alone : Kind → Counts
+counts_alone kind.Bool = counts.Bool
+counts_alone kind.Tristate = counts.Tristate
+counts_alone k = counts.Neither
+
+-- in a bool choice each member counts as bool; in a tristate one an untyped member as tristate
+abbrev pub counts_in : Counts → Kind → Counts
+counts_in counts.Tristate kind.Bool = counts.Bool
+counts_in counts.Tristate k = counts.Tristate
+counts_in c k = counts.Bool
+
+-- by the symbol's own type, or by its choice
+abbrev pub counts_with : Shape → Kind → Option ℕ → Counts
+counts_with t k None = counts_alone k
+counts_with t k (Some i) = counts_in (counts_alone (choice_at t i).kind) k
+
+-- the modules symbol counts as bool, a member by its choice, every other by its own type
+abbrev pub counts_as : Shape → ℕ → Counts
+counts_as t k = if is_the t.modules k then counts.Bool else counts_with t (symbol_at t k).kind (symbol_at t k).member_of
+
+-- who selects a symbol, in order of declaration
+abbrev pub selects_at : List ℕ → ℕ → List SelectOf → List Selector
+selects_at name j [] = []
+selects_at name j (s ∷ ss) = if text_eq s.target name then record { by = j; cond = s.cond } ∷ selects_at name j ss else selects_at name j ss
+
+-- the selects of this name by the symbols from number j on
+abbrev pub selects_from : List ℕ → ℕ → List Symbol → List Selector
+selects_from name j [] = []
+selects_from name j (s ∷ ss) = selects_at name j s.selects ++ selects_from name (suc j) ss
+
+-- all selects of a symbol
+abbrev pub selectors_of : Shape → ℕ → List Selector
+selectors_of t k = selects_from (symbol_at t k).name 0 t.symbols
