@@ -1,0 +1,31 @@
+ghost use Rattle.std.specs.Prelude.{IfOk, false};
+ghost use Rattle.kconf_tree.specs.Gathered.{gathered};
+ghost use Rattle.ut_report.specs.Report.{AreWords};
+ghost use Rattle.undertaker.specs.FirstEntries.{IsFirstTree};
+ghost use Rattle.undertaker.specs.Plain.{IsFirstSource};
+
+use crate::dependencies::Dependencies;
+use crate::judging::words_of_steps;
+use crate::steps::steps_of;
+use cpp_read::Directive;
+use kconf_parse::Entries;
+use std::alloc::{AllocError, Global};
+use ut_verdict::Word;
+
+/// The word on each block in order, for texts of the first form.
+///
+/// A block asks some macros to be defined and others not. The wanted symbols are closed under their
+/// dependencies, and the block can be on where that closes in none that is asked not to be there.
+pub(crate) fn words_of(
+    alloc: Global,
+    entries: &Entries,
+    directives: &[Directive],
+) -> Result<Vec<Word>, AllocError>
+    requires tree { IsFirstTree entries.now }
+    requires source { IsFirstSource directives.now }
+    ensures { IfOk result (λ words. AreWords (gathered entries.now) directives.now (λ block f ask. false) words.items) }
+{
+    let graph = Dependencies::of(alloc, entries)?;
+    let steps = steps_of(alloc, &graph, directives)?;
+    words_of_steps(alloc, &graph, &steps)
+}

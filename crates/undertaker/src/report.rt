@@ -1,0 +1,156 @@
+ghost use Rattle.std.specs.Prelude.{◌≡◌, ◌+◌, ◌++◌, IfOk, OnOk, decimal, map};
+ghost use Rattle.ut_report.specs.Report.{Refusal, Words, ask_text, block_line, class_text, refusal_of, refused_line, steps_text, word_text};
+ghost use Rattle.ut_report.specs.Report as spec;
+ghost use Rattle.undertaker.specs.Gather.{IsFault};
+ghost use Rattle.undertaker.specs.Lines.{ended, lines_on};
+
+use crate::lines::Line;
+use crate::totals::Totals;
+use cpp_read::CppBad;
+use itoa::Buffer;
+use std::alloc::{AllocError, Global};
+use ut_base::Name;
+use ut_verdict::{Ask, Class, Word};
+
+/// No question of the first form is given a budget, and none is left undecided.
+const STEPS: u64 = 0;
+
+fn class_word(class: Class) -> &'static str
+    ensures { result.now ≡ class_text class }
+{
+    match class {
+        Class::Code => "code",
+        Class::Kconfig => "kconfig",
+        Class::Missing => "missing",
+        Class::Unclassified { steps: _ } => "unclassified",
+    }
+}
+
+fn ask_word(ask: Ask) -> &'static str
+    ensures { result.now ≡ ask_text ask }
+{
+    match ask {
+        Ask::Selected => "selected",
+        Ask::Dropped => "dropped",
+    }
+}
+
+/// Adds what stands in front of a number, and the number.
+pub(crate) fn add_count(text: &mut Vec<u8>, what: &str, count: u64) -> Result<(), AllocError>
+    ensures { OnOk result (text.new.items ≡ text.old.items ++ what.now ++ decimal count) }
+{
+    let mut buffer = Buffer::new();
+    text.extend_from_slice(what.as_bytes())?;
+    text.extend_from_slice(buffer.format(count).as_bytes())
+}
+
+/// Adds a class with the words behind it.
+fn add_class(text: &mut Vec<u8>, class: Class, what: &str) -> Result<(), AllocError>
+    ensures { OnOk result (text.new.items ≡ text.old.items ++ (class_text class ++ what.now ++ steps_text class)) }
+{
+    text.extend_from_slice(class_word(class).as_bytes())?;
+    text.extend_from_slice(what.as_bytes())?;
+    match class {
+        Class::Unclassified { steps } => add_count(text, " ", steps),
+        _ => Ok(()),
+    }
+}
+
+/// Adds the word of a verdict line.
+fn add_word(text: &mut Vec<u8>, word: Word) -> Result<(), AllocError>
+    ensures { OnOk result (text.new.items ≡ text.old.items ++ word_text STEPS word) }
+{
+    match word {
+        Word::Dead(class) => add_class(text, class, ".globally.dead"),
+        Word::Undead(class) => add_class(text, class, ".globally.undead"),
+        Word::Live => text.extend_from_slice(b"live"),
+        Word::Undecided(ask) => {
+            text.extend_from_slice(b"undecided ")?;
+            text.extend_from_slice(ask_word(ask).as_bytes())?;
+            add_count(text, " ", STEPS)
+        }
+    }
+}
+
+fn verdict_line(alloc: Global, name: &Name, block: u64, word: Word) -> Result<Line, AllocError>
+    ensures { IfOk result (λ l. l ≡ ended (block_line name.now STEPS block word)) }
+{
+    let mut text = Vec::from_slice(alloc, name.text().as_bytes())?;
+    add_count(&mut text, ".B", block)?;
+    text.push(b'.')?;
+    add_word(&mut text, word)?;
+    Line::ended(text)
+}
+
+/// One line for each block in order, from block 1.
+fn block_lines(alloc: Global, name: &Name, words: &[Word]) -> Result<Vec<Line>, AllocError>
+    ensures { IfOk result (λ lines. lines.items ≡ map ended (spec.block_lines name.now STEPS 1 words.now)) }
+{
+    let mut lines = Vec::with_capacity(alloc, words.len())?;
+    let mut block = 0;
+    for word in words {
+        block += 1;
+        lines.push(verdict_line(alloc, name, block, *word)?)?;
+    }
+    Ok(lines)
+}
+
+/// The report on a source whose blocks have these words, in order from block 1.
+pub(crate) fn verdict_lines(
+    alloc: Global,
+    name: &Name,
+    words: &[Word],
+) -> Result<Vec<Line>, AllocError>
+    ensures { IfOk result (λ lines. lines.items ≡ lines_on name.now (Words words.now)) }
+{
+    let mut lines = block_lines(alloc, name, words)?;
+    lines.push(Totals::of_words(words).line(alloc)?)?;
+    Ok(lines)
+}
+
+/// The kind of a refusal, and the line that it names.
+fn refusal(bad: CppBad) -> (&'static str, u32)
+    ensures kind { result.0.now ≡ (refusal_of bad).0 }
+    ensures line { result.1 ≡ (refusal_of bad).1 }
+{
+    match bad {
+        CppBad::NotYet { line } => ("notyet", line),
+        CppBad::Unbalanced { line } => ("unbalanced", line),
+        CppBad::ElseTwice { line } => ("else", line),
+        CppBad::Depth { line } => ("depth", line),
+        CppBad::TooMany { line } => ("many", line),
+        CppBad::NoName { line } => ("name", line),
+        CppBad::Condition { line } => ("condition", line),
+        CppBad::Unclosed { line } => ("unclosed", line),
+        CppBad::Oom => ("memory", 0),
+    }
+}
+
+fn refusal_line(alloc: Global, name: &Name, bad: CppBad) -> Result<Line, AllocError>
+    ensures { IfOk result (λ l. l ≡ ended (refused_line name.now bad)) }
+{
+    let (kind, line) = refusal(bad);
+    let mut text = Vec::from_slice(alloc, name.text().as_bytes())?;
+    text.extend_from_slice(b".refused ")?;
+    text.extend_from_slice(kind.as_bytes())?;
+    add_count(&mut text, " ", u64::from(line))?;
+    Line::ended(text)
+}
+
+/// The report on a refused source. Want of memory is no refusal.
+pub(crate) fn refused_lines(
+    alloc: Global,
+    name: &Name,
+    bad: CppBad,
+) -> Result<Vec<Line>, AllocError>
+    ensures lines { IfOk result (λ lines. lines.items ≡ lines_on name.now (Refusal bad)) }
+    ensures fault { OnOk result (IsFault bad) }
+{
+    if let CppBad::Oom = bad {
+        return Err(AllocError);
+    }
+    let mut lines = Vec::new(alloc);
+    lines.push(refusal_line(alloc, name, bad)?)?;
+    lines.push(Totals::of_words(&[]).line(alloc)?)?;
+    Ok(lines)
+}

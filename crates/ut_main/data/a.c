@@ -1,0 +1,4 @@
+#ifdef CONFIG_B
+#ifndef CONFIG_A
+#endif
+#endif
