@@ -1,0 +1,10 @@
+pub mod Merging
+pub mod Resolvents
+pub mod Deriving
+pub mod Soundness
+pub mod Verdicts
+pub mod Decimals
+pub mod Pieces
+pub mod Repeated
+pub mod Lines
+pub mod WholeTexts

@@ -1,0 +1,13 @@
+use Rattle.std.proofs.Common.{Err, ap}
+use Rattle.std.proofs.lemmas.Result.{err_from_is_err_and}
+use Rattle.log_check.proofs.WholeTexts.{text_once, bad_is_oom}
+use Rattle.log_check.proofs.texts.read_derivation.Goals as goal
+
+pub returns-in_err-lines-clause-only : goal.returns-in_err-lines-clause-only
+returns-in_err-lines-clause-only c = λ n lines h.
+    let p = err_from_is_err_and c.from_residual.result c.from_residual.ensures.1 in
+    rw (p.1, p.2) (bad_is_oom _ _ (λ number e. c.in_err-lines.ensures.line number (ap Err e)) n lines h)
+
+pub returns-clause-only : goal.returns-clause-only
+returns-clause-only c = λ n lines h.
+    rw c.from_vec.ensures (text_once c.in_ok-lines.ensures.reads.0 n _ lines _ c.in_ok-lines.ensures.reads.1 h)

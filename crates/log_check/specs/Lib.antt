@@ -1,0 +1,6 @@
+pub mod Resolution
+pub mod Derivations
+pub mod DerivationText
+pub mod Merging
+pub mod Verdicts
+pub mod Reading
