@@ -1,20 +1,21 @@
-mod Bools
-mod Trees
-mod Texts
-mod Clashes
-mod MeaningLaws
-mod Deciding
-mod Runs
-mod Questions
-mod Firsts
-mod Entries
-mod Reached
-mod Rows
-mod LevelLaws
-mod JudgingLaws
-mod StepLaws
-mod Sources
-mod DecisionLaws
-mod ReportLemmas
-mod RunLemmas
-mod Written
+pub mod Bools
+pub mod Trees
+pub mod Texts
+pub mod Clashes
+pub mod MeaningLaws
+pub mod Deciding
+pub mod Runs
+pub mod Questions
+pub mod Firsts
+pub mod Entries
+pub mod Reached
+pub mod Rows
+pub mod LevelLaws
+pub mod JudgingLaws
+pub mod StepLaws
+pub mod Sources
+pub mod DecisionLaws
+pub mod ReportLemmas
+pub mod RunLemmas
+pub mod Written
+pub mod Telling

@@ -2,6 +2,7 @@ pub mod Status
 pub mod Words
 pub mod Outcome
 pub mod Written
+pub mod Told
 pub mod Run
 pub mod Names
 pub mod FirstEntries

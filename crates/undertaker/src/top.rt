@@ -5,6 +5,7 @@ ghost use Rattle.undertaker.specs.Lines.{ended};
 ghost use Rattle.undertaker.specs.Outcome.{outcome_of};
 ghost use Rattle.undertaker.specs.Refusals.{bad_line};
 ghost use Rattle.undertaker.specs.Run.{EndsBy, EndsWith, IsUsage, KeepsOut, SaysAll, Tells, TellsFault, TellsOne, TellsOutcome, Writes, WritesLines, line_at};
+ghost use Rattle.undertaker.specs.Told.{DeadIsOff, LiveIsNeither, NamesBadLine, UndeadIsOn};
 ghost use Rattle.undertaker.specs.Words.{names_in};
 
 use crate::bad::Bad;
@@ -80,8 +81,14 @@ pub fn run<R: Threads + Sync, F: Files, O: Sink, E: Sink>(
     ensures kept { KeepsOut (O.taken out.old) (O.taken out.new) result }
     ensures same { F.held files.new ≡ F.held files.old }
 
+    // What the words of a report say.
+    ensures dead_is_off { DeadIsOff }
+    ensures undead_is_on { UndeadIsOn }
+    ensures live_is_neither { LiveIsNeither }
+
     // A refusal is the first one of the words and the files.
     ensures refusal { IfSome (F.held files.old) (λ held. EndsBy (outcome_of words.now held) result) }
+    ensures first_bad_line { IfSome (F.held files.old) (λ held. NamesBadLine held (outcome_of words.now held)) }
     ensures usage { IsUsage (names_in words.now) result }
 
     // The one line on `err`.

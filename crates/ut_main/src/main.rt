@@ -34,8 +34,9 @@ fn end_without_words<E: Sink + Drop>(err: E, error: &io::Error) -> ExitCode {
 fn main(rt: HostRuntime) -> ExitCode {
     let alloc = rt.alloc();
     let mut err = StdSink::new(rt.stderr());
-    let texts: Result<Vec<String>, io::Error> =
-        env::args(&rt).and_then(|args| Ok(args.collect(alloc)?));
+    let texts: Result<Vec<String>, io::Error> = env::args(&rt).and_then(|args| Ok(args.collect(
+        alloc,
+    )?));
     let texts = match texts {
         Ok(texts) => texts,
         Err(error) => return end_without_words(err, &error),

@@ -372,58 +372,49 @@ fn report_on_250(alloc: Global) -> Result<String, AllocError> {
 }
 
 #[test]
-fn sizes_up_to_the_limits_are_taken(rt: HostRuntime) -> Result<(), Fail> {
+fn a_name_has_up_to_4096_bytes(rt: HostRuntime) -> Result<(), Fail> {
     let alloc = rt.alloc();
     let longest = "x".repeat(alloc, 4096)?;
-    let missing = format!(in alloc; "{longest}: missing\n")?;
     let too_long = "x".repeat(alloc, 4097)?;
+    let missing = format!(in alloc; "{longest}: missing\n")?;
+    let rows = [
+        (longest.as_str(), Status::Missing, missing.as_str()),
+        (
+            too_long.as_str(),
+            Status::Usage,
+            "undertaker: usage: words\n",
+        ),
+    ];
+    for (name, status, err) in rows {
+        let row = Row {
+            words: &["-j", "dead", "--kconfig", name, "a.c"],
+            files: &[("Kconfig", K1), ("a.c", S1)],
+            status,
+            out: "",
+            err,
+        };
+        check(&rt, rt.alloc(), &row, SOUND)?;
+    }
+    Ok(())
+}
+
+#[test]
+fn a_source_is_taken_up_to_the_limits(rt: HostRuntime) -> Result<(), Fail> {
+    let alloc = rt.alloc();
     let file = "x".repeat(alloc, 16_777_217)?;
     let deepest = nested(alloc, 250)?;
     let too_deep = nested(alloc, 251)?;
     let report = report_on_250(alloc)?;
     let refused = "a.c.refused notyet 251\nblocks 0 dead 0 undead 0 live 0 undecided 0\n";
-    let with_longest = ["-j", "dead", "--kconfig", longest.as_str(), "a.c"];
-    let with_too_long = ["-j", "dead", "--kconfig", too_long.as_str(), "a.c"];
+    let past = "limit: filebytes 16777217\n";
     let rows = [
-        (
-            with_longest.as_slice(),
-            S1,
-            Status::Missing,
-            "",
-            missing.as_str(),
-        ),
-        (
-            with_too_long.as_slice(),
-            S1,
-            Status::Usage,
-            "",
-            "undertaker: usage: words\n",
-        ),
-        (
-            WORDS.as_slice(),
-            file.as_str(),
-            Status::Limit,
-            "",
-            "limit: filebytes 16777217\n",
-        ),
-        (
-            WORDS.as_slice(),
-            deepest.as_str(),
-            Status::Well,
-            report.as_str(),
-            "",
-        ),
-        (
-            WORDS.as_slice(),
-            too_deep.as_str(),
-            Status::Well,
-            refused,
-            "",
-        ),
+        (file.as_str(), Status::Limit, "", past),
+        (deepest.as_str(), Status::Well, report.as_str(), ""),
+        (too_deep.as_str(), Status::Well, refused, ""),
     ];
-    for (words, source, status, out, err) in rows {
+    for (source, status, out, err) in rows {
         let row = Row {
-            words,
+            words: &WORDS,
             files: &[("Kconfig", K1), ("a.c", source)],
             status,
             out,

@@ -4,6 +4,7 @@ use Rattle.std.specs.declared.alloc.Global.{Global}
 use Rattle.undertaker.specs.Outcome.{outcome_of}
 use Rattle.undertaker.specs.Words.{names_in}
 use Rattle.undertaker.proofs.RunLemmas.{if_told, refused_writes, refused_ends, refused_tells_one, refused_tells_outcome}
+use Rattle.undertaker.proofs.Telling.{told_line}
 use Rattle.undertaker.proofs.top.run.Goals as goal
 
 pub returns-in-Err-clause-written : goal.returns-in-Err-clause-written
@@ -26,3 +27,9 @@ returns-in-Err-clause-err_told g c =
     if_told (λ m r. refused_tells_outcome g.E.Sink.taken g.E.Sink.faults c.args.err.now c.refuse.new.err (outcome_of c.args.words.now m) c.in-Err.bad c.refuse.result
     c.refuse.ensures.status r c.refuse.ensures.told)
     (g.F.Files.held c.args.files.now) c.in-Err.ensures.told
+
+pub returns-in-Err-clause-first_bad_line : goal.returns-in-Err-clause-first_bad_line
+returns-in-Err-clause-first_bad_line g c = told_line c.args.words.now (g.F.Files.held c.args.files.now)
+
+pub returns-clause-first_bad_line : goal.returns-clause-first_bad_line
+returns-clause-first_bad_line g c = told_line c.args.words.now (g.F.Files.held c.args.files.now)
