@@ -25,7 +25,7 @@ const TWO_LINES: &str =
 const MODULE_NAMED: &str = "config A\n\tbool \"a\"\nconfig A_MODULE\n\tbool \"m\"\n";
 
 /// Small cases with the reports that the definitions of dead, undead, live and their classes give.
-const CASES: [(&str, &str, &str); 27] = [
+const CASES: [(&str, &str, &str); 31] = [
     (
         K1,
         "#ifndef CONFIG_A\n#ifdef CONFIG_B\n#endif\n#endif\n",
@@ -160,6 +160,26 @@ const CASES: [(&str, &str, &str); 27] = [
         K1,
         "int x;\n#ifdef CONFIG_A\nint y;\n#endif\nint z;\n",
         "a.c.B1.live\nblocks 1 dead 0 undead 0 live 1 undecided 0\n",
+    ),
+    (
+        CHAIN,
+        "#ifdef CONFIG_B\n#ifdef CONFIG_A\n#endif\n#endif\n#ifdef CONFIG_E\n#ifdef CONFIG_D\n#endif\n#endif\n",
+        "a.c.B1.live\na.c.B2.kconfig.globally.undead\na.c.B3.live\na.c.B4.kconfig.globally.undead\nblocks 4 dead 0 undead 2 live 2 undecided 0\n",
+    ),
+    (
+        K1,
+        "#ifdef A\n#ifdef CONFIG_A\n#endif\n#endif\n",
+        "a.c.B1.live\na.c.B2.live\nblocks 2 dead 0 undead 0 live 2 undecided 0\n",
+    ),
+    (
+        K1,
+        "#ifndef CONFIG_TYPO\n#ifdef CONFIG_TYPO\n#endif\n#endif\n",
+        "a.c.B1.missing.globally.undead\na.c.B2.code.globally.dead\nblocks 2 dead 1 undead 1 live 0 undecided 0\n",
+    ),
+    (
+        K1,
+        "#ifdef CONFIG_B\n#endif\n#ifdef CONFIG_B\n#ifndef CONFIG_A\n#ifdef X\n#endif\n#endif\n#endif\n",
+        "a.c.B1.live\na.c.B2.live\na.c.B3.kconfig.globally.dead\na.c.B4.kconfig.globally.dead\nblocks 4 dead 2 undead 0 live 2 undecided 0\n",
     ),
 ];
 
