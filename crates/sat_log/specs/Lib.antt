@@ -1,0 +1,10 @@
+pub mod Moves
+pub mod Runs
+pub mod ToCome
+pub mod LeastModel
+pub mod Trails
+pub mod Inner
+pub mod TrailInside
+pub mod Search
+pub mod Answers
+pub mod Choosing
