@@ -1,0 +1,12 @@
+mod Facts
+mod Conditions
+mod Validity
+mod Undeclared
+mod Nested
+mod ByRules
+mod Selecting
+mod Choosing
+mod Tristate
+mod Chain
+mod Reports
+mod OneWord
