@@ -1,0 +1,14 @@
+pub mod InTurn
+pub mod InSet
+pub mod PlaceLaws
+pub mod Kept
+pub mod TidyLaws
+pub mod Meets
+pub mod Grows
+pub mod Define
+pub mod Held
+pub mod WaysLaws
+pub mod OrderLaws
+pub mod Models
+pub mod FormLaws
+pub mod KnownLaws

@@ -1,0 +1,5 @@
+pub mod Form
+pub mod ClauseForm
+pub mod Order
+pub mod Tidy
+pub mod Meaning

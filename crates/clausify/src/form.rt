@@ -1,0 +1,136 @@
+ghost use Rattle.std.specs.Prelude.{◌≡◌, ◌++◌, [], length, map, IfOk, OnOk, IsSorted};
+ghost use Rattle.ut_logic.specs.Assign.{is_in};
+ghost use Rattle.ut_logic.specs.Item.{item_cmp};
+ghost use Rattle.ut_logic.specs.declared.item.Item as declared;
+ghost use Rattle.model_slice.specs.Found.{Finds};
+ghost use Rattle.clausify.specs.ClauseForm.{var_of, hold_each, defined_each};
+ghost use Rattle.clausify.specs.Meaning.{StandsFor};
+ghost use Rattle.clausify.specs.Order as order;
+ghost use Rattle.clausify.specs.Tidy.{AreTidy};
+
+use crate::builder::Builder;
+use crate::chosen::chosen;
+use crate::hold::{define_each, hold_each};
+use crate::stage::Stage;
+use crate::tidy::tidy_each;
+use crate::variables::Variables;
+use model_slice::{Places, Slice};
+use std::alloc::{AllocError, Global};
+use ut_logic::{Cnf, Fact, Facts, Formula};
+
+/// The clause form of the facts of the slice's nodes, in the order of these nodes, and of the wish. The only
+/// error is want of memory.
+///
+/// Its variables are the items that the facts list and the outer conditions that the wish mentions, in
+/// their order, and then inner nodes as they are met. Each item that the facts mention is listed in one of
+/// them, and each that the wish mentions is or is an outer condition. Of several facts of one node the first
+/// counts, and a node without a fact adds nothing. This project's rule.
+pub fn clauses(
+    alloc: Global,
+    facts: &Facts,
+    slice: &Slice,
+    wish: &[Formula],
+) -> Result<Cnf, AllocError>
+    requires listed { order.AreListed (order.slice_facts facts.now slice.now) }
+    requires wish { order.IsWishOver (order.slice_facts facts.now slice.now) wish.now }
+    ensures sorted { IfOk result (λ cnf. IsSorted item_cmp cnf.items) }
+    ensures items { IfOk result (λ cnf. (i : declared.Item) → is_in cnf.items i ≡ is_in (order.items_of (order.slice_facts facts.now slice.now) ++ order.outers_of wish.now) i) }
+    ensures vars { IfOk result (λ cnf. cnf.vars ≡ (order.form_over cnf.items (order.slice_facts facts.now slice.now) wish.now).vars) }
+    ensures clauses { IfOk result (λ cnf. AreTidy (order.form_over cnf.items (order.slice_facts facts.now slice.now) wish.now).clauses cnf.clauses) }
+    ensures means { IfOk result (λ cnf. StandsFor cnf.items (order.slice_facts facts.now slice.now) wish.now cnf.vars cnf.clauses) }
+{
+    let places = Places::of(alloc, facts)?;
+    clauses_with(alloc, facts, &places, slice, wish)
+}
+
+/// `clauses` over facts whose places are known: it goes over the slice's facts and over nothing else.
+pub fn clauses_with(
+    alloc: Global,
+    facts: &Facts,
+    places: &Places,
+    slice: &Slice,
+    wish: &[Formula],
+) -> Result<Cnf, AllocError>
+    requires places { Finds facts.now.list places.now }
+    requires listed { order.AreListed (order.slice_facts facts.now slice.now) }
+    requires wish { order.IsWishOver (order.slice_facts facts.now slice.now) wish.now }
+    ensures sorted { IfOk result (λ cnf. IsSorted item_cmp cnf.items) }
+    ensures items { IfOk result (λ cnf. (i : declared.Item) → is_in cnf.items i ≡ is_in (order.items_of (order.slice_facts facts.now slice.now) ++ order.outers_of wish.now) i) }
+    ensures vars { IfOk result (λ cnf. cnf.vars ≡ (order.form_over cnf.items (order.slice_facts facts.now slice.now) wish.now).vars) }
+    ensures clauses { IfOk result (λ cnf. AreTidy (order.form_over cnf.items (order.slice_facts facts.now slice.now) wish.now).clauses cnf.clauses) }
+    ensures means { IfOk result (λ cnf. StandsFor cnf.items (order.slice_facts facts.now slice.now) wish.now cnf.vars cnf.clauses) }
+{
+    let chosen = chosen(alloc, facts, places, slice.nodes.as_slice())?;
+    let vars = Variables::of(alloc, &chosen, wish)?;
+    let written = written(alloc, &vars, &chosen, wish)?;
+    let clauses = tidy_each(alloc, written.clauses())?;
+    let items = Vec::from_slice(alloc, vars.items())?;
+    Ok(Cnf::new(written.vars(), items, clauses))
+}
+
+/// The clauses of the facts and the wish, as they are written.
+fn written(
+    alloc: Global,
+    vars: &Variables,
+    facts: &[&Fact],
+    wish: &[Formula],
+) -> Result<Builder, AllocError>
+    ensures { IfOk result (λ b. b ≡ order.form_over vars.now (map (λ f. f.now) facts.now) wish.now) }
+{
+    let mut b = Builder::new(alloc, vars.items().len() as u64);
+    add_stage(alloc, vars, Stage::Symbols, facts, &mut b)?;
+    add_stage(alloc, vars, Stage::Starts, facts, &mut b)?;
+    add_stage(alloc, vars, Stage::Blocks, facts, &mut b)?;
+    add_stage(alloc, vars, Stage::States, facts, &mut b)?;
+    hold_each(alloc, vars, wish, &mut b)?;
+    Ok(b)
+}
+
+/// Adds the clauses of a stage.
+fn add_stage(
+    alloc: Global,
+    vars: &Variables,
+    stage: Stage,
+    facts: &[&Fact],
+    b: &mut Builder,
+) -> Result<(), AllocError>
+    ensures { OnOk result (b.new ≡ order.staged (var_of vars.now) stage (map (λ f. f.now) facts.now) b.old) }
+{
+    for fact in facts {
+        add_held(alloc, vars, stage, fact, b)?;
+        add_defined(alloc, vars, stage, fact, b)?;
+    }
+    Ok(())
+}
+
+fn add_held(
+    alloc: Global,
+    vars: &Variables,
+    stage: Stage,
+    fact: &Fact,
+    b: &mut Builder,
+) -> Result<(), AllocError>
+    ensures { OnOk result (b.new ≡ hold_each (var_of vars.now) (order.held_in stage fact.now) b.old) }
+{
+    if stage.holds(fact.node) {
+        hold_each(alloc, vars, fact.holds.as_slice(), b)
+    } else {
+        Ok(())
+    }
+}
+
+fn add_defined(
+    alloc: Global,
+    vars: &Variables,
+    stage: Stage,
+    fact: &Fact,
+    b: &mut Builder,
+) -> Result<(), AllocError>
+    ensures { OnOk result (b.new ≡ defined_each (var_of vars.now) (order.defined_in stage fact.now) b.old) }
+{
+    if stage.defines(fact.node) {
+        define_each(alloc, vars, fact.defines.as_slice(), b)
+    } else {
+        Ok(())
+    }
+}

@@ -1,0 +1,50 @@
+ghost use Rattle.std.specs.Prelude.{◌≡◌, Bool, true, false, IfOk, OnOk, MatchOption};
+ghost use Rattle.clausify.specs.Tidy.{AddsTidy, AreTidy, IsTidy, has_both_signs};
+
+use crate::lits::Lits;
+use std::alloc::{AllocError, Global};
+use ut_logic::{Clause, Lit, are_ordered};
+
+/// The clauses that do not have both signs of a variable, each in order.
+pub fn tidy_each(alloc: Global, written: &[Lits]) -> Result<Vec<Clause>, AllocError>
+    ensures { IfOk result (λ cs. AreTidy written.now cs.items) }
+{
+    let mut clauses = Vec::with_capacity(alloc, written.len())?;
+    let mut sorted = Vec::new(alloc);
+    for lits in written {
+        add_tidy(alloc, &mut clauses, &mut sorted, lits.as_slice())?;
+    }
+    Ok(clauses)
+}
+
+fn add_tidy(
+    alloc: Global,
+    clauses: &mut Vec<Clause>,
+    sorted: &mut Vec<Lit>,
+    lits: &[Lit],
+) -> Result<(), AllocError>
+    ensures { OnOk result (AddsTidy lits.now clauses.old.items clauses.new.items) }
+{
+    match tidy(alloc, sorted, lits)? {
+        Some(clause) => {
+            clauses.push(clause)?;
+            Ok(())
+        }
+        None => Ok(()),
+    }
+}
+
+/// The literals in order, each once; nothing where both signs of a variable stand among them.
+fn tidy(alloc: Global, sorted: &mut Vec<Lit>, lits: &[Lit]) -> Result<Option<Clause>, AllocError>
+    ensures { IfOk result (λ o. MatchOption o (has_both_signs lits.now ≡ true) (λ c. (has_both_signs lits.now ≡ false) × IsTidy lits.now c)) }
+{
+    sorted.clear();
+    sorted.extend_from_slice(lits)?;
+    sorted.sort_unstable();
+    sorted.dedup();
+    if are_ordered(sorted) {
+        Ok(Some(Clause::new(alloc, sorted)?))
+    } else {
+        Ok(None)
+    }
+}

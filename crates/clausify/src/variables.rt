@@ -1,0 +1,146 @@
+ghost use Rattle.std.specs.Prelude.{◌≡◌, ◌++◌, ◌||◌, ◌≤◌, ◌<◌, ◌^◌, length, map, filter, IfOk, OnOk, IsSorted};
+ghost use Rattle.ut_logic.specs.Assign.{is_in};
+ghost use Rattle.ut_logic.specs.Item.{item_cmp, item_eq};
+ghost use Rattle.ut_logic.specs.Truth.{mentioned, together};
+ghost use Rattle.ut_logic.specs.Variables.{AreDistinct};
+ghost use Rattle.ut_logic.specs.declared.item.Item as declared;
+ghost use Rattle.clausify.specs.ClauseForm.{var_of};
+ghost use Rattle.clausify.specs.Order as order;
+
+use indexmap::IndexSet;
+use std::alloc::{AllocError, Global};
+use std::marker::Model;
+use ut_logic::{Fact, Formula, Item};
+
+/// The items that variables stand for, in order: the variable of an item is its place from 1.
+#[derive(Drop)]
+pub struct Variables {
+    set: IndexSet<Item>,
+}
+
+impl Model for Variables {
+    ghost use Rattle.std.specs.Prelude.{List};
+    ghost use Rattle.ut_logic.specs.declared.item.Item.{Item};
+
+    ghost Value = { List Item };
+
+    ghost view = { λ v. v.set.keys };
+}
+
+impl Variables {
+    /// The items that the facts list, and the outer conditions that the wish mentions.
+    pub fn of(alloc: Global, facts: &[&Fact], wish: &[Formula]) -> Result<Variables, AllocError>
+        ensures sorted { IfOk result (λ v. IsSorted item_cmp v) }
+        ensures members { IfOk result (λ v. (i : declared.Item) → is_in v i ≡ is_in (order.items_of (map (λ f. f.now) facts.now) ++ order.outers_of wish.now) i) }
+    {
+        let mut items = listed(alloc, facts)?;
+        let outers = outers(alloc, wish)?;
+        items.extend_from_slice(&outers)?;
+        Ok(Variables {
+            set: in_order(alloc, &items)?,
+        })
+    }
+
+    /// The variable of an item, or 0 where it has none.
+    pub fn var(&self, item: Item) -> u64
+        ensures { result ≡ var_of self.now item }
+    {
+        let count = self.set.len();
+        match self.set.get_index_of(&item) {
+            Some(place) => {
+                prove!(place < count);
+                place as u64 + 1
+            }
+            None => 0,
+        }
+    }
+
+    /// The items in order.
+    pub fn items(&self) -> &[Item]
+        ensures value { result.now ≡ self.now }
+        ensures distinct { AreDistinct self.now }
+    {
+        self.set.as_slice()
+    }
+}
+
+pub fn is_outer(item: Item) -> bool
+    ensures { result ≡ order.is_outer item }
+{
+    matches!(item, Item::Outer(_))
+}
+
+/// The outer conditions that the formulas mention.
+fn outers(alloc: Global, wish: &[Formula]) -> Result<Vec<Item>, AllocError>
+    ensures { IfOk result (λ v. v.items ≡ order.outers_of wish.now) }
+{
+    let mut items = Vec::new(alloc);
+    mention_each(wish, &mut items)?;
+    keep_outers(&mut items);
+    Ok(items)
+}
+
+fn keep_outers(items: &mut Vec<Item>)
+    ensures { items.new.items ≡ filter order.is_outer items.old.items }
+{
+    items.retain(|item| is_outer(*item));
+}
+
+/// The items that the facts list.
+pub fn listed(alloc: Global, facts: &[&Fact]) -> Result<Vec<Item>, AllocError>
+    ensures { IfOk result (λ v. v.items ≡ order.items_of (map (λ f. f.now) facts.now)) }
+{
+    let mut items = Vec::new(alloc);
+    for fact in facts {
+        items.extend_from_slice(fact.items.as_slice())?;
+    }
+    Ok(items)
+}
+
+/// Adds the items that the formula mentions.
+#[cycle(mention)]
+pub fn mention(f: &Formula, items: &mut Vec<Item>) -> Result<(), AllocError>
+    ensures { OnOk result (items.new.items ≡ items.old.items ++ mentioned f.now) }
+{
+    match f {
+        Formula::Yes => Ok(()),
+        Formula::No => Ok(()),
+        Formula::Is(item) => {
+            items.push(*item)?;
+            Ok(())
+        }
+        Formula::Neg(inner) => mention(inner.get(), items),
+        Formula::AllOf(list) => mention_each(list.as_slice(), items),
+        Formula::AnyOf(list) => mention_each(list.as_slice(), items),
+    }
+}
+
+#[cycle(mention)]
+pub fn mention_each(list: &[Formula], items: &mut Vec<Item>) -> Result<(), AllocError>
+    ensures { OnOk result (items.new.items ≡ items.old.items ++ together (map mentioned list.now)) }
+{
+    for f in list {
+        mention(f, items)?;
+    }
+    Ok(())
+}
+
+/// The items in order, each once.
+fn in_order(alloc: Global, items: &[Item]) -> Result<IndexSet<Item>, AllocError>
+    ensures sorted { IfOk result (λ s. IsSorted item_cmp s.keys) }
+    ensures members { IfOk result (λ s. (i : declared.Item) → is_in s.keys i ≡ is_in items.now i) }
+{
+    let mut set = collected(alloc, items)?;
+    set.sort_unstable()?;
+    Ok(set)
+}
+
+pub fn collected(alloc: Global, items: &[Item]) -> Result<IndexSet<Item>, AllocError>
+    ensures members { IfOk result (λ s. (i : declared.Item) → is_in s.keys i ≡ is_in items.now i) }
+{
+    let mut set = IndexSet::with_capacity(alloc, items.len())?;
+    for item in items {
+        set.insert(*item)?;
+    }
+    Ok(set)
+}
