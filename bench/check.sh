@@ -15,7 +15,7 @@ echo 'Handles allowed: none.' >"$data/HANDLES"
 grep -E '^(ut_logic|log_check):' "$here/crates.txt" >"$data/crates.txt"
 cd "$data"
 rt new crates/check_times start_io >/dev/null
-rm -rf crates/check_times/proofs crates/check_times/specs crates/check_times/stdin crates/check_times/stdout
+rm -rf crates/check_times/src/*.rt crates/check_times/proofs crates/check_times/specs crates/check_times/stdin crates/check_times/stdout
 echo 'check_times: ut_logic log_check' >>crates.txt
 
 # Clause i has -i, i + 1 and the literals 20 to 27, so that each chain gives -1 and 11 and those.
