@@ -152,7 +152,7 @@ fn run(rt: &HostRuntime, facts: &Facts) -> io::Result<Option<Timed>> {
 fn main(rt: HostRuntime) -> io::Result<()> {
     let large = facts(rt.alloc(), 15_000)?;
     let small = facts(rt.alloc(), 1_500)?;
-    for _ in 0..5u32 {
+    for _ in 0..9u32 {
         if let (Some(l), Some(s)) = (run(&rt, &large)?, run(&rt, &small)?) {
             println!(rt; "{} {} {} {}", l.micros, l.clauses, s.micros, s.clauses)?;
         }
@@ -162,11 +162,11 @@ fn main(rt: HostRuntime) -> io::Result<()> {
 END
 (cd crates/form_times && rt run >"$data/log" 2>&1) || { tail "$data/log"; exit 1; }
 
-# The best of five of each size, from one run.
+# The best of nine of each size, from one run.
 crates/form_times/out/form_times >times
 awk 'NR == 1 { l = $1; s = $3 }
     { if ($1 < l) l = $1; if ($3 < s) s = $3; c = $2; d = $4 }
     END {
-        if (NR != 5) { print "a fact is not known or not listed"; exit 1 }
+        if (NR != 9) { print "a fact is not known or not listed"; exit 1 }
         printf "slice and clauses: %d clauses in %d us, %d clauses in %d us, ratio %.2f\n", c, l, d, s, l / s
     }' times
