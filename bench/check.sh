@@ -3,20 +3,8 @@
 # Usage: bench/check.sh. It builds a driver over copies of the crates in a folder of its own.
 set -e
 here=$(cd "$(dirname "$0")/.." && pwd)
-data=$(mktemp -d)
-trap 'rm -rf "$data"' EXIT
-
-mkdir "$data/crates"
-for crate in ut_logic log_check; do
-    cp -R "$here/crates/$crate" "$data/crates/$crate"
-    rm -rf "$data/crates/$crate/must-fail"
-done
-echo 'Handles allowed: none.' >"$data/HANDLES"
-grep -E '^(ut_logic|log_check):' "$here/crates.txt" >"$data/crates.txt"
-cd "$data"
-rt new crates/check_times start_io >/dev/null
-rm -rf crates/check_times/src/*.rt crates/check_times/proofs crates/check_times/specs crates/check_times/stdin crates/check_times/stdout
-echo 'check_times: ut_logic log_check' >>crates.txt
+. "$here/bench/driver.sh"
+new_driver check_times '' ut_logic log_check
 
 # Clause i has -i, i + 1 and the literals 20 to 27, so that each chain gives -1 and 11 and those.
 cat >crates/check_times/src/main.rt <<'END'
@@ -155,7 +143,7 @@ int main(void) {
 }
 END
 cc -O2 plain.c -o plain
-(cd crates/check_times && rt run >"$data/log" 2>&1) || { tail "$data/log"; exit 1; }
+build_driver
 
 best() {
     for _ in 1 2 3 4 5 6 7 8 9; do "$1"; done | sort -n | head -n 1

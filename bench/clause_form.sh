@@ -3,20 +3,8 @@
 # Usage: bench/clause_form.sh. It builds a driver over copies of the crates in a folder of its own.
 set -e
 here=$(cd "$(dirname "$0")/.." && pwd)
-data=$(mktemp -d)
-trap 'rm -rf "$data"' EXIT
-
-mkdir "$data/crates"
-for crate in ut_logic model_slice clausify; do
-    cp -R "$here/crates/$crate" "$data/crates/$crate"
-    rm -rf "$data/crates/$crate/must-fail"
-done
-echo 'Handles allowed: none.' >"$data/HANDLES"
-grep -E '^(ut_logic|model_slice|clausify):' "$here/crates.txt" >"$data/crates.txt"
-cd "$data"
-rt new crates/form_times start_io >/dev/null
-rm -rf crates/form_times/src/*.rt crates/form_times/proofs crates/form_times/specs crates/form_times/stdin crates/form_times/stdout
-echo 'form_times: ut_logic model_slice clausify sqlite_items' >>crates.txt
+. "$here/bench/driver.sh"
+new_driver form_times 'sqlite_items' ut_logic model_slice clausify
 
 # A symbol needs all four that it names, is m where the first and one of the others are y, and every third isn't y and m.
 cat >crates/form_times/src/main.rt <<'END'
@@ -160,7 +148,7 @@ fn main(rt: HostRuntime) -> io::Result<()> {
     Ok(())
 }
 END
-(cd crates/form_times && rt run >"$data/log" 2>&1) || { tail "$data/log"; exit 1; }
+build_driver
 
 # The best of nine of each size, from one run.
 crates/form_times/out/form_times >times
