@@ -23,6 +23,7 @@ impl Model for Lits {
 }
 
 impl Lits {
+    /// The clause of these literals. The only error is want of memory.
     pub fn from_slice(alloc: Global, lits: &[Lit]) -> Result<Lits, AllocError>
         ensures { IfOk result (λ c. c ≡ lits.now) }
     {
@@ -52,6 +53,7 @@ impl Lits {
         Ok(Lits { lits: clause })
     }
 
+    /// The literals in order.
     pub fn as_slice(&self) -> &[Lit]
         ensures { result.now ≡ self.now }
     {
@@ -59,6 +61,7 @@ impl Lits {
     }
 }
 
+/// The variable.
 pub fn positive(var: u64) -> Lit
     ensures { result ≡ spec.pos var }
 {
@@ -68,6 +71,7 @@ pub fn positive(var: u64) -> Lit
     }
 }
 
+/// The negation of the variable.
 pub fn negative(var: u64) -> Lit
     ensures { result ≡ spec.neg var }
 {
@@ -77,6 +81,7 @@ pub fn negative(var: u64) -> Lit
     }
 }
 
+/// The literal with the other sign.
 pub fn negated(lit: Lit) -> Lit
     ensures { result ≡ words.negated lit }
 {

@@ -64,6 +64,7 @@ impl Variables {
     }
 }
 
+/// Whether the item is an outer condition.
 pub fn is_outer(item: Item) -> bool
     ensures { result ≡ order.is_outer item }
 {
@@ -135,6 +136,7 @@ fn in_order(alloc: Global, items: &[Item]) -> Result<IndexSet<Item>, AllocError>
     Ok(set)
 }
 
+/// The items, each once. The only error is want of memory.
 pub fn collected(alloc: Global, items: &[Item]) -> Result<IndexSet<Item>, AllocError>
     ensures members { IfOk result (λ s. (i : declared.Item) → is_in s.keys i ≡ is_in items.now i) }
 {

@@ -1,5 +1,5 @@
--- What a trail keeps behind its view, and what the resolving at a conflict keeps. No public contract cites
--- this module.
+-- What a trail keeps behind its view, and what the resolving at a conflict keeps. Of public contracts that
+-- of `Trail::explain` alone cites this module, for how its line ends or cuts.
 use Rattle.std.specs.Prelude.{◌≡◌, ◌≢◌, ◌⊎◌, ℕ, ◌+◌, ◌<◌, ◌≤◌, Bool, true, false, List, [], ◌∷◌, ◌++◌, length, take, slice_index, slice_index_or, All, Contains}
 use Rattle.ut_logic.specs.declared.literals.Lit.{Lit}
 use Rattle.ut_logic.specs.Clauses.{literal, negated, AreWithin}

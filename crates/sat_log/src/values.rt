@@ -50,6 +50,7 @@ pub fn put(
     }
 }
 
+/// Whether the variable has no value.
 pub fn is_unset(value: Value) -> bool
     ensures { IsTrue result ↔ (value ≡ Value.Unset) }
 {
