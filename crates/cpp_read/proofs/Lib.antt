@@ -2,3 +2,12 @@ pub mod NamesLemmas
 pub mod LinesLemmas
 pub mod FirstFormLemmas
 pub mod FirstBadLineLemmas
+pub mod SplicesLemmas
+pub mod DirectiveLinesLemmas
+pub mod DullLemmas
+pub mod TokensLemmas
+pub mod NumberLemmas
+pub mod RefusalLemmas
+pub mod DepthLemmas
+pub mod ConditionLaws
+pub mod DirectivesLemmas

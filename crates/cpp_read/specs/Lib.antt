@@ -1,7 +1,32 @@
-pub mod Names
+-- what the contracts of public calls rest on
 pub mod Refusals
+pub mod Names
+pub mod Splices
+pub mod Comments
+pub mod DirectiveLines
+pub mod Words
+pub mod Tokens
+pub mod Numbers
+pub mod Signs
+pub mod Depth
+pub mod SignsOver
+pub mod Operands
+pub mod Conditions
+pub mod Condition
+pub mod Chains
+pub mod Directives
 pub mod Lines
-pub mod LineEnds
 pub mod FirstForm
-pub mod FirstReading
 pub mod FirstBadLine
+-- what functions promise each other
+pub mod Cursors
+pub mod LineSteps
+pub mod Dull
+pub mod TokenSteps
+pub mod NumberSteps
+pub mod OverSteps
+pub mod ConditionSteps
+pub mod ChainSteps
+pub mod DirectiveSteps
+pub mod LineEnds
+pub mod FirstReading

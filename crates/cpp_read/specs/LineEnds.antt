@@ -1,4 +1,5 @@
 -- The first line of a text and what stands behind it: what the readers of lines promise each other.
+-- This project's own; no contract of a public call rests on it.
 use Rattle.std.specs.Prelude.{ℕ, suc, Bool, false, ◌==◌, ◌&&◌, ◌||◌, drop, List, [], ◌∷◌, if◌then◌else◌}
 use Rattle.cpp_read.specs.Lines.{begins_newline}
 

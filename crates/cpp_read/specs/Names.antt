@@ -1,4 +1,5 @@
--- C names: a letter or `_`, followed by letters, digits and `_`. Rule: ISO C, "Identifiers".
+-- C names: a letter or `_`, followed by letters, digits and `_`.
+-- Rule: ISO C, "Identifiers".
 use Rattle.std.specs.Prelude.{ℕ, Bool, false, ◌==◌, ◌||◌, ◌&&◌, nat_le, List, [], ◌∷◌}
 use Rattle.std.specs.List.{list_all}
 

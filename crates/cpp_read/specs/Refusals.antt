@@ -1,4 +1,5 @@
--- Refusals: of all bad lines the first one is named, since reading ends there. This project's rule.
+-- Refusals: of all bad lines the first one is named, since reading ends there, and want of memory is free.
+-- This project's rule.
 use Rattle.std.specs.Prelude.{◌≡◌, Result, Ok, Err, List}
 use Rattle.std.specs.declared.vec.Vec.{Vec}
 use Rattle.std.specs.declared.alloc.Global.{Global}

@@ -1,3 +1,7 @@
+ghost use Rattle.std.specs.Prelude.{◌≡◌, ◌++◌, option_to_list, OnOk, IfErr};
+ghost use Rattle.cpp_read.specs.declared.bad.CppBad.TheVariants as bad;
+
+use crate::bad::CppBad;
 use crate::condition::Cond;
 use ut_logic::Text;
 
@@ -28,4 +32,15 @@ pub enum What {
 pub struct Directive {
     pub line: u32,
     pub what: What,
+}
+
+/// Puts a line's directive, if it has one, behind the others.
+pub(crate) fn keep(list: &mut Vec<Directive>, directive: Option<Directive>) -> Result<(), CppBad>
+    ensures list { OnOk result (list.new.items ≡ list.old.items ++ option_to_list directive) }
+    ensures memory { IfErr result (λ e. e ≡ bad.Oom) }
+{
+    if let Some(directive) = directive {
+        list.push(directive)?;
+    }
+    Ok(())
 }

@@ -1,12 +1,11 @@
 ghost use Rattle.std.specs.Prelude.{◌≡◌, ◌<◌, ◌≤◌, ◌++◌, length, option_to_list, OnOk, IfErr};
 ghost use Rattle.cpp_read.specs.FirstForm as spec;
-ghost use Rattle.cpp_read.specs.declared.bad.CppBad.TheVariants as bad;
 ghost use Rattle.cpp_read.specs.Refusals.{AnswersList};
 ghost use Rattle.cpp_read.specs.FirstReading.{Reads, Ends};
 
 use crate::bad::CppBad;
 use crate::condition::Cond;
-use crate::directive::{Directive, What};
+use crate::directive::{Directive, What, keep};
 use crate::first_lines::{FirstLine, first_line};
 use crate::lines::split_line;
 use std::alloc::Global;
@@ -35,6 +34,7 @@ impl Model for FirstChains {
 }
 
 impl FirstChains {
+    /// No chain is open and no block was met.
     fn new(alloc: Global) -> FirstChains
         ensures { result ≡ spec.no_chains }
     {
@@ -44,12 +44,14 @@ impl FirstChains {
         }
     }
 
+    /// Whether one more chain would be too deep or a block too many.
     fn is_full(&self) -> bool
         ensures { result ≡ spec.is_full self.now }
     {
         self.openers.len() >= MOST_DEPTH || self.blocks >= MOST_BLOCKS
     }
 
+    /// Opens a chain, unless a limit is passed.
     fn open(&mut self, line: u32, cond: Cond) -> Result<Option<Directive>, CppBad>
         ensures { Reads result self.new (spec.opened line cond self.old) }
     {
@@ -64,6 +66,7 @@ impl FirstChains {
         }))
     }
 
+    /// Closes the innermost chain.
     fn close(&mut self, line: u32) -> Result<Option<Directive>, CppBad>
         ensures { Reads result self.new (spec.closed line self.old.blocks self.old.openers) }
     {
@@ -76,6 +79,7 @@ impl FirstChains {
         }
     }
 
+    /// What a line of the form does to the chains, and its directive.
     fn step(&mut self, line: u32, says: FirstLine) -> Result<Option<Directive>, CppBad>
         ensures { Reads result self.new (spec.step line says self.old) }
     {
@@ -87,6 +91,7 @@ impl FirstChains {
         }
     }
 
+    /// Reads one line.
     fn read(&mut self, alloc: Global, line: u32, text: &[u8]) -> Result<Option<Directive>, CppBad>
         ensures { Reads result self.new (spec.step line (spec.first_line text.now) self.old) }
     {
@@ -103,17 +108,6 @@ impl FirstChains {
             None => Ok(()),
         }
     }
-}
-
-/// Puts a line's directive, if it has one, behind the others.
-fn keep(list: &mut Vec<Directive>, directive: Option<Directive>) -> Result<(), CppBad>
-    ensures list { OnOk result (list.new.items ≡ list.old.items ++ option_to_list directive) }
-    ensures memory { IfErr result (λ e. e ≡ bad.Oom) }
-{
-    if let Some(directive) = directive {
-        list.push(directive)?;
-    }
-    Ok(())
 }
 
 /// The directives of a source of the first form.

@@ -17,24 +17,28 @@ pub enum FirstLine {
     Other,
 }
 
-fn is_letter(byte: u8) -> bool
+/// A letter or `_`.
+pub fn is_letter(byte: u8) -> bool
     ensures { result ≡ names.is_letter byte }
 {
     byte.is_ascii_lowercase() || byte.is_ascii_uppercase() || byte == b'_'
 }
 
-fn is_name_byte(byte: u8) -> bool
+/// A letter, a digit or `_`.
+pub fn is_name_byte(byte: u8) -> bool
     ensures { result ≡ names.is_name_byte byte }
 {
     is_letter(byte) || byte.is_ascii_digit()
 }
 
+/// Whether each byte goes on with a name.
 fn are_name_bytes(text: &[u8]) -> bool
     ensures { result ≡ list_all names.is_name_byte text.now }
 {
     text.iter().all(|b| is_name_byte(*b))
 }
 
+/// Whether a text is a C name.
 fn is_name(text: &[u8]) -> bool
     ensures { result ≡ names.is_name text.now }
 {
@@ -44,24 +48,28 @@ fn is_name(text: &[u8]) -> bool
     }
 }
 
+/// `#`, `\`, `"`, `'` or `/`: with such a byte a line may be more than it seems. Digraphs are not followed.
 fn is_special(byte: u8) -> bool
     ensures { result ≡ spec.is_special byte }
 {
     byte == b'#' || byte == b'\\' || byte == b'"' || byte == b'\'' || byte == b'/'
 }
 
+/// Whether a line has such a byte.
 fn holds_special(line: &[u8]) -> bool
     ensures { result ≡ list_any spec.is_special line.now }
 {
     line.iter().any(|b| is_special(*b))
 }
 
+/// Whether a line begins with the word and one space.
 fn asks(word: &[u8], line: &[u8]) -> bool
     ensures { result ≡ spec.asks word.now line.now }
 {
     line.starts_with(word) && is_name(&line[word.len()..])
 }
 
+/// The text of a name.
 fn name_text(alloc: Global, name: &[u8]) -> Result<Text, AllocError>
     requires { names.is_name name.now ≡ true }
     ensures { IfOk result (λ t. t ≡ name.now) }
@@ -85,6 +93,7 @@ pub fn first_line(alloc: Global, line: &[u8]) -> Result<FirstLine, AllocError>
     Ok(other_line(line))
 }
 
+/// A line that opens nothing: `#endif`, one without such a byte, or none of the form.
 fn other_line(line: &[u8]) -> FirstLine
     ensures { result ≡ spec.other_line line.now }
 {

@@ -1,0 +1,168 @@
+ghost use Rattle.std.specs.Prelude.{◌≡◌, ℕ, ◌<◌, length, drop, suc, true, false, IfOk, not};
+ghost use Rattle.std.specs.List.{list_all};
+ghost use Rattle.cpp_read.specs.Depth as depths;
+ghost use Rattle.cpp_read.specs.Depth.{parts, before_at};
+ghost use Rattle.cpp_read.specs.Conditions as spec;
+ghost use Rattle.cpp_read.specs.Conditions.{Reader, Reads, single, negated, each};
+ghost use Rattle.cpp_read.specs.Condition.{ruled_condition, condition};
+ghost use Rattle.cpp_read.specs.Refusals.{Answers, AnswersList};
+
+use crate::bad::CppBad;
+use crate::condition::Cond;
+use crate::depth::{Joint, before, is_balanced, is_group};
+use crate::number::{Whole, read_whole};
+use crate::operand::{is_negation, leaf, piece};
+use crate::signs_over::signs_fit;
+use crate::token::Token;
+use sqlite_items::{Boxed, Items};
+use std::alloc::{AllocError, Global};
+
+/// Whether such a sign stands outside all parentheses.
+fn has(joint: Joint, tokens: &[Token]) -> bool
+    ensures value { result ≡ depths.has joint tokens.now }
+    ensures before { result ≡ true → before_at joint 0 tokens.now < length tokens.now }
+{
+    before(joint, tokens) < tokens.len()
+}
+
+/// Whether there is no token.
+fn is_none(tokens: &[Token]) -> bool
+    ensures { result ≡ spec.is_none tokens.now }
+{
+    match tokens {
+        [] => true,
+        _ => false,
+    }
+}
+
+/// The condition of the tokens, by the first rule that fits.
+#[cycle(read)]
+fn read(alloc: Global, tokens: &[Token], line: u32) -> Result<Cond, CppBad>
+    ensures { (f : Reader) → Reads line f → Answers result (f tokens.now) }
+{
+    if is_none(tokens) {
+        return Err(CppBad::Condition { line });
+    }
+    if has(Joint::Pick, tokens) {
+        return Ok(piece(alloc, tokens)?);
+    }
+    if has(Joint::Any, tokens) {
+        let list = read_parts(alloc, Joint::Any, tokens, line)?;
+        return Ok(Cond::AnyOf(Items::from_vec(list)));
+    }
+    if has(Joint::All, tokens) {
+        let list = read_parts(alloc, Joint::All, tokens, line)?;
+        return Ok(Cond::AllOf(Items::from_vec(list)));
+    }
+    read_single(alloc, tokens, line)
+}
+
+/// The conditions of the parts, in order.
+#[cycle(read)]
+fn read_parts(alloc: Global, joint: Joint, tokens: &[Token], line: u32) -> Result<Vec<Cond>, CppBad>
+    requires { before_at joint 0 tokens.now < length tokens.now }
+    ensures { (f : Reader) → Reads line f → AnswersList result (each f (parts joint tokens.now)) }
+{
+    let mut list = Vec::new(alloc);
+    let mut rest = tokens;
+    'parts: loop {
+        let count = before(joint, rest);
+        let part = read(alloc, &rest[..count], line)?;
+        list.push(part)?;
+        if count == rest.len() {
+            break 'parts;
+        }
+        rest = behind(rest, count);
+    }
+    Ok(list)
+}
+
+/// The tokens behind that place.
+fn behind(tokens: &[Token], at: usize) -> &[Token]
+    requires { at < length tokens.now }
+    ensures value { result.now ≡ drop (suc at) tokens.now }
+    ensures len { length result.now < length tokens.now }
+{
+    &tokens[at + 1..]
+}
+
+/// The tokens between the parentheses of a group.
+fn inside(tokens: &[Token]) -> &[Token]
+    requires { depths.is_group tokens.now ≡ true }
+    ensures value { result.now ≡ spec.inside tokens.now }
+    ensures len { length result.now < length tokens.now }
+{
+    &tokens[1..tokens.len() - 1]
+}
+
+/// The condition of a list without operators between parts.
+#[cycle(read)]
+fn read_single(alloc: Global, tokens: &[Token], line: u32) -> Result<Cond, CppBad>
+    requires { spec.is_none tokens.now ≡ false }
+    ensures { (f : Reader) → Reads line f → Answers result (single f tokens.now) }
+{
+    if is_negation(tokens) {
+        return read_negated(alloc, behind(tokens, 0), line);
+    }
+    if is_group(tokens) {
+        return read(alloc, inside(tokens), line);
+    }
+    Ok(leaf(alloc, tokens)?)
+}
+
+/// The negation of what the tokens say.
+#[cycle(read)]
+fn read_negated(alloc: Global, tokens: &[Token], line: u32) -> Result<Cond, CppBad>
+    ensures { (f : Reader) → Reads line f → Answers result (negated (f tokens.now)) }
+{
+    let inner = read(alloc, tokens, line)?;
+    Ok(Cond::Neg(Boxed::new(alloc, inner)?))
+}
+
+/// A whole number that needs more than 128 bits.
+fn is_wide(token: &Token) -> bool
+    ensures { result ≡ spec.is_wide token.now }
+{
+    match token {
+        Token::Number(text) => read_whole(text.text().as_bytes()) == Whole::Wide,
+        _ => false,
+    }
+}
+
+/// Whether no token is such a number.
+fn numbers_fit(tokens: &[Token]) -> bool
+    ensures { result ≡ list_all (λ t. not (spec.is_wide t)) tokens.now }
+{
+    tokens.iter().all(|t| !is_wide(t))
+}
+
+/// Whether parentheses match, no token has too many signs over it and no number is too wide.
+fn is_readable(alloc: Global, tokens: &[Token]) -> Result<bool, AllocError>
+    ensures { IfOk result (λ b. b ≡ spec.is_readable tokens.now) }
+{
+    let fits = signs_fit(alloc, tokens)?;
+    Ok(is_balanced(tokens) && fits && numbers_fit(tokens))
+}
+
+/// The condition of the tokens of a line.
+///
+/// A list is read by the first rule that fits: an opaque piece where `?` or `,` stands outside parentheses; the
+/// parts of `||`; those of `&&`; `!` and a unit; the inside of a group; `defined X`, `IS_BUILTIN(X)`,
+/// `IS_MODULE(X)`, `IS_ENABLED(X)`, a name, a whole number; else an opaque piece.
+///
+/// `Condition` comes where a list that is read so is empty, parentheses do not match, a token has more than 200
+/// signs over it, or a whole number needs more than 128 bits; `Oom` where there is no memory.
+pub fn read_condition(alloc: Global, tokens: &[Token], line: u32) -> Result<Cond, CppBad>
+    ensures { Answers result (condition line tokens.now) }
+{
+    if !is_readable(alloc, tokens)? {
+        return Err(CppBad::Condition { line });
+    }
+    read(alloc, tokens, line)
+}
+
+/// The rules decide every list: the reader that the condition is defined by reads each list by the first rule that
+/// fits.
+pub fn conditions_follow_rules()
+    ensures { (line : ℕ) → Reads line (ruled_condition line) }
+{}

@@ -1,0 +1,237 @@
+ghost use Rattle.std.specs.Prelude.{◌≡◌, ◌==◌, ◌&&◌, not, ◌<◌, ◌≤◌, ◌∷◌, [], true, false, IfOk, IfSome, MatchOption, length};
+ghost use Rattle.ut_logic.specs.Escapes.{escaped};
+ghost use Rattle.cpp_read.specs.Names as names;
+ghost use Rattle.cpp_read.specs.Tokens as spec;
+ghost use Rattle.cpp_read.specs.TokenSteps as steps;
+
+use crate::first_lines::is_letter;
+use crate::plain::is_blank;
+use crate::token::Token;
+use crate::words::{name_bytes, unblanked};
+use std::alloc::{AllocError, Global};
+use ut_logic::Text;
+
+/// Whether a text begins with a digit.
+fn begins_digit(text: &[u8]) -> bool
+    ensures { result ≡ spec.begins_digit text.now }
+{
+    match text {
+        [first, ..] => is_digit(*first),
+        [] => false,
+    }
+}
+
+/// A decimal digit.
+fn is_digit(byte: u8) -> bool
+    ensures { result ≡ names.is_digit byte }
+{
+    byte.is_ascii_digit()
+}
+
+/// Whether a number begins there: a digit, or a dot and a digit.
+fn begins_number(first: u8, behind: &[u8]) -> bool
+    ensures { result ≡ spec.begins_number first behind.now }
+{
+    is_digit(first) || (first == b'.' && begins_digit(behind))
+}
+
+/// `e`, `E`, `p` or `P`.
+fn is_exponent(byte: u8) -> bool
+    ensures { result ≡ spec.is_exponent byte }
+{
+    byte == b'e' || byte == b'E' || byte == b'p' || byte == b'P'
+}
+
+/// Whether a byte goes on with a number.
+fn is_number_byte(signed: bool, byte: u8) -> bool
+    ensures { result ≡ spec.is_number_byte signed byte }
+{
+    crate::first_lines::is_name_byte(byte)
+        || byte == b'.'
+        || (signed && (byte == b'+' || byte == b'-'))
+}
+
+/// How many bytes go on with a number.
+fn number_len(text: &[u8]) -> usize
+    ensures value { result ≡ spec.number_len false text.now }
+    ensures within { result ≤ length text.now }
+{
+    let mut signed = false;
+    let mut count = 0;
+    for byte in text {
+        if !is_number_byte(signed, *byte) {
+            return count;
+        }
+        signed = is_exponent(*byte);
+        count += 1;
+    }
+    count
+}
+
+/// Whether a byte ends quoted text.
+fn closes(mark: u8, escape: bool, byte: u8) -> bool
+    ensures { result ≡ (not escape && byte == mark) }
+{
+    !escape && byte == mark
+}
+
+/// Whether the byte behind is taken as it is.
+fn escapes(escape: bool, byte: u8) -> bool
+    ensures { result ≡ (not escape && byte == 92) }
+{
+    !escape && byte == b'\\'
+}
+
+/// How many bytes go on with quoted text, its mark included.
+fn quoted_len(mark: u8, text: &[u8]) -> usize
+    ensures value { result ≡ spec.quoted_len mark false text.now }
+    ensures within { result ≤ length text.now }
+{
+    let mut escape = false;
+    let mut count = 0;
+    for byte in text {
+        count += 1;
+        if closes(mark, escape, *byte) {
+            return count;
+        }
+        escape = escapes(escape, *byte);
+    }
+    count
+}
+
+/// `"` or `'`.
+fn is_quote(byte: u8) -> bool
+    ensures { result ≡ spec.is_quote byte }
+{
+    byte == b'"' || byte == b'\''
+}
+
+/// A byte that makes a sign with another of itself.
+fn is_doubled(byte: u8) -> bool
+    ensures { result ≡ spec.is_doubled byte }
+{
+    byte == b'|' || byte == b'&' || byte == b'=' || byte == b'<' || byte == b'>'
+}
+
+/// A byte that makes a sign with `=` behind it.
+fn is_compared(byte: u8) -> bool
+    ensures { result ≡ spec.is_compared byte }
+{
+    byte == b'!' || byte == b'<' || byte == b'>'
+}
+
+/// Whether two bytes are one sign.
+fn is_pair(first: u8, second: u8) -> bool
+    ensures { result ≡ spec.is_pair first second }
+{
+    (first == second && is_doubled(first)) || (second == b'=' && is_compared(first))
+}
+
+/// How many bytes go with a sign's first: one or none.
+fn sign_len(first: u8, behind: &[u8]) -> usize
+    ensures value { result ≡ spec.sign_len first behind.now }
+    ensures within { result ≤ length behind.now }
+{
+    match behind {
+        [second, ..] => if is_pair(first, *second) { 1 } else { 0 },
+        [] => 0,
+    }
+}
+
+/// How many bytes go with a token's first.
+fn more_of(first: u8, behind: &[u8]) -> usize
+    ensures value { result ≡ spec.more_of first behind.now }
+    ensures within { result ≤ length behind.now }
+{
+    if is_letter(first) {
+        name_bytes(behind)
+    } else if begins_number(first, behind) {
+        number_len(behind)
+    } else if is_quote(first) {
+        quoted_len(first, behind)
+    } else {
+        sign_len(first, behind)
+    }
+}
+
+/// The length of the token at the front.
+fn token_len(text: &[u8]) -> usize
+    ensures value { result ≡ steps.token_len text.now }
+    ensures within { result ≤ length text.now }
+{
+    match text {
+        [first, behind @ ..] => 1 + more_of(*first, behind),
+        [] => 0,
+    }
+}
+
+/// Whether a token begins there.
+fn begins_token(text: &[u8]) -> bool
+    ensures { result ≡ steps.begins_token text.now }
+{
+    match text {
+        [first, ..] => !is_blank(*first),
+        [] => false,
+    }
+}
+
+/// The token at the front, and what stands behind it.
+fn split_token(text: &[u8]) -> (&[u8], &[u8])
+    requires { steps.begins_token text.now ≡ true }
+    ensures tokens { spec.pieces_of text.now ≡ result.0.now ∷ spec.pieces_of result.1.now }
+    ensures shorter { length result.1.now < length text.now }
+{
+    text.split_at(token_len(text))
+}
+
+/// The token with these bytes.
+fn token_of(alloc: Global, bytes: &[u8]) -> Result<Token, AllocError>
+    ensures { IfOk result (λ t. t ≡ spec.token_of bytes.now) }
+{
+    let text = Text::of_bytes(alloc, bytes)?;
+    Ok(token_with(bytes, text))
+}
+
+/// The token with these bytes, whose text is made.
+fn token_with(bytes: &[u8], text: Text) -> Token
+    requires { text ≡ escaped bytes.now }
+    ensures { result ≡ spec.token_of bytes.now }
+{
+    match bytes {
+        [first, behind @ ..] => if is_letter(*first) {
+            Token::Ident(text)
+        } else if begins_number(*first, behind) {
+            Token::Number(text)
+        } else if is_quote(*first) {
+            Token::Quoted(text)
+        } else {
+            Token::Sign(text)
+        },
+        [] => Token::Sign(text),
+    }
+}
+
+/// The first token, and what stands behind it.
+pub fn next_token(text: &[u8]) -> Option<(&[u8], &[u8])>
+    ensures value { MatchOption result (spec.pieces_of text.now ≡ []) (λ r. spec.pieces_of text.now ≡ r.0.now ∷ spec.pieces_of r.1.now) }
+    ensures shorter { IfSome result (λ r. length r.1.now < length text.now) }
+{
+    let rest = unblanked(text);
+    if !begins_token(rest) {
+        return None;
+    }
+    Some(split_token(rest))
+}
+
+/// The tokens of a line.
+pub fn tokens_of(alloc: Global, text: &[u8]) -> Result<Vec<Token>, AllocError>
+    ensures { IfOk result (λ v. v.items ≡ spec.tokens_of text.now) }
+{
+    let mut list = Vec::new(alloc);
+    let mut rest = text;
+    while let Some((bytes, more)) = next_token(rest) {
+        list.push(token_of(alloc, bytes)?)?;
+        rest = more;
+    }
+    Ok(list)
+}

@@ -1,0 +1,137 @@
+ghost use Rattle.std.specs.Prelude.{◌≡◌, ◌≤◌, true, length, IfOk};
+ghost use Rattle.std.specs.List.{list_all, prefix_len};
+ghost use Rattle.cpp_read.specs.Names as names;
+ghost use Rattle.cpp_read.specs.Words as spec;
+ghost use Rattle.cpp_read.specs.DirectiveLines as lines;
+
+use crate::first_lines::{is_letter, is_name_byte};
+use crate::plain::is_blank;
+use std::alloc::{AllocError, Global};
+use ut_logic::Text;
+
+/// The word that names a directive.
+#[derive(Clone, Copy)]
+pub enum Word {
+    If,
+    Elif,
+    Ifdef,
+    Ifndef,
+    /// `#elifdef` or `#elifndef`.
+    Elifdef,
+    Else,
+    Endif,
+    Define,
+    Undef,
+    Other,
+}
+
+/// The directive that a word names.
+pub fn word_of(word: &[u8]) -> Word
+    ensures { result ≡ spec.word_of word.now }
+{
+    if word == b"if".as_slice() {
+        Word::If
+    } else if word == b"ifdef".as_slice() {
+        Word::Ifdef
+    } else if word == b"ifndef".as_slice() {
+        Word::Ifndef
+    } else {
+        chain_word(word)
+    }
+}
+
+/// The word that goes on with a chain or ends it, or another.
+fn chain_word(word: &[u8]) -> Word
+    ensures { result ≡ spec.chain_word word.now }
+{
+    if word == b"elif".as_slice() {
+        Word::Elif
+    } else if word == b"elifdef".as_slice() {
+        Word::Elifdef
+    } else if word == b"elifndef".as_slice() {
+        Word::Elifdef
+    } else if word == b"else".as_slice() {
+        Word::Else
+    } else if word == b"endif".as_slice() {
+        Word::Endif
+    } else {
+        macro_word(word)
+    }
+}
+
+/// `define`, `undef`, or another word.
+fn macro_word(word: &[u8]) -> Word
+    ensures { result ≡ spec.macro_word word.now }
+{
+    if word == b"define".as_slice() {
+        Word::Define
+    } else if word == b"undef".as_slice() {
+        Word::Undef
+    } else {
+        Word::Other
+    }
+}
+
+/// How many blanks stand at the front.
+fn blanks(text: &[u8]) -> usize
+    ensures value { result ≡ prefix_len lines.is_blank text.now }
+    ensures within { result ≤ length text.now }
+{
+    let mut count = 0;
+    for byte in text {
+        if !is_blank(*byte) {
+            return count;
+        }
+        count += 1;
+    }
+    count
+}
+
+/// How many bytes of a name stand at the front.
+pub fn name_bytes(text: &[u8]) -> usize
+    ensures value { result ≡ prefix_len names.is_name_byte text.now }
+    ensures within { result ≤ length text.now }
+{
+    let mut count = 0;
+    for byte in text {
+        if !is_name_byte(*byte) {
+            return count;
+        }
+        count += 1;
+    }
+    count
+}
+
+/// The text behind its leading blanks.
+pub fn unblanked(text: &[u8]) -> &[u8]
+    ensures { result.now ≡ spec.unblanked text.now }
+{
+    &text[blanks(text)..]
+}
+
+/// The bytes of a name at the front, which may be none, and what stands behind them.
+pub fn split_name(text: &[u8]) -> (&[u8], &[u8])
+    ensures name { result.0.now ≡ spec.name_at text.now }
+    ensures behind { result.1.now ≡ spec.behind_name text.now }
+    ensures bytes { list_all names.is_name_byte result.0.now ≡ true }
+{
+    text.split_at(name_bytes(text))
+}
+
+/// The text of a name.
+pub fn name_text(alloc: Global, name: &[u8]) -> Result<Text, AllocError>
+    requires { list_all names.is_name_byte name.now ≡ true }
+    ensures { IfOk result (λ t. t ≡ name.now) }
+{
+    Text::of_bytes(alloc, name)
+}
+
+/// Whether a text begins with a name.
+pub fn begins_name(text: &[u8]) -> bool
+    ensures { result ≡ spec.begins_name text.now }
+{
+    match text {
+        [first, ..] => is_letter(*first),
+        [] => false,
+    }
+}
