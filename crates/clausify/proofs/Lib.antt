@@ -10,5 +10,6 @@ pub mod Held
 pub mod WaysLaws
 pub mod OrderLaws
 pub mod Models
+pub mod Shifts
 pub mod FormLaws
 pub mod KnownLaws

@@ -2,4 +2,5 @@ pub mod Form
 pub mod ClauseForm
 pub mod Order
 pub mod Tidy
+pub mod Draft
 pub mod Meaning
