@@ -3,4 +3,5 @@ pub mod ClauseForm
 pub mod Order
 pub mod Tidy
 pub mod Draft
+pub mod Numbered
 pub mod Meaning

@@ -5,6 +5,7 @@ ghost use Rattle.ut_logic.specs.Truth.{mentioned, together};
 ghost use Rattle.ut_logic.specs.Variables.{AreDistinct};
 ghost use Rattle.ut_logic.specs.declared.item.Item as declared;
 ghost use Rattle.clausify.specs.ClauseForm.{var_of};
+ghost use Rattle.clausify.specs.Numbered.{AreVariables};
 ghost use Rattle.clausify.specs.Order as order;
 
 use indexmap::IndexSet;
@@ -16,6 +17,8 @@ use ut_logic::{Fact, Formula, Item};
 #[derive(Drop)]
 pub struct Variables {
     set: IndexSet<Item>,
+    /// The variables of the symbols of the first numbers, without a search; 0 where there is none.
+    symbols: Vec<u64>,
 }
 
 impl Model for Variables {
@@ -25,6 +28,10 @@ impl Model for Variables {
     ghost Value = { List Item };
 
     ghost view = { λ v. v.set.keys };
+
+    ghost use Rattle.clausify.specs.Numbered.{AreVariables};
+
+    ghost invariant = { λ v. AreVariables v.set.keys v.symbols.items };
 }
 
 impl Variables {
@@ -36,22 +43,21 @@ impl Variables {
         let mut items = listed(alloc, facts)?;
         let outers = outers(alloc, wish)?;
         items.extend_from_slice(&outers)?;
-        Ok(Variables {
-            set: in_order(alloc, &items)?,
-        })
+        let set = in_order(alloc, &items)?;
+        let symbols = symbols(alloc, &set)?;
+        Ok(Variables { set, symbols })
     }
 
     /// The variable of an item, or 0 where it has none.
     pub fn var(&self, item: Item) -> u64
         ensures { result ≡ var_of self.now item }
     {
-        let count = self.set.len();
-        match self.set.get_index_of(&item) {
-            Some(place) => {
-                prove!(place < count);
-                place as u64 + 1
-            }
-            None => 0,
+        match item {
+            Item::SymY(sym) => match self.symbols.get(sym as usize) {
+                Some(var) => *var,
+                None => searched(&self.set, item),
+            },
+            _ => searched(&self.set, item),
         }
     }
 
@@ -62,6 +68,32 @@ impl Variables {
     {
         self.set.as_slice()
     }
+}
+
+/// The variable of an item, by a search.
+fn searched(set: &IndexSet<Item>, item: Item) -> u64
+    ensures { result ≡ var_of set.now.keys item }
+{
+    let count = set.len();
+    match set.get_index_of(&item) {
+        Some(place) => {
+            prove!(place < count);
+            place as u64 + 1
+        }
+        None => 0,
+    }
+}
+
+/// The variables of the symbols whose numbers are below the number of items.
+fn symbols(alloc: Global, set: &IndexSet<Item>) -> Result<Vec<u64>, AllocError>
+    ensures { IfOk result (λ vars. AreVariables set.now.keys vars.items) }
+{
+    let count = u32::try_from(set.len()).unwrap_or(u32::MAX);
+    let mut vars = Vec::with_capacity(alloc, set.len())?;
+    for sym in 0..count {
+        vars.push(searched(set, Item::SymY(sym)))?;
+    }
+    Ok(vars)
 }
 
 /// Whether the item is an outer condition.
