@@ -1,4 +1,4 @@
-ghost use Rattle.std.specs.Prelude.{◌≡◌, [], OnOk};
+ghost use Rattle.std.specs.Prelude.{◌≡◌, [], IfOk, OnOk};
 ghost use Rattle.clausify.specs.Form as spec;
 ghost use Rattle.clausify.specs.Draft.{IsDraft};
 
@@ -18,15 +18,15 @@ pub struct Draft {
 }
 
 impl Draft {
-    /// No clauses over these variables.
-    pub fn new(alloc: Global, vars: u64) -> Draft
-        ensures { IsDraft (record { vars = vars; clauses = [] }) result.written result.clauses.items }
+    /// No clauses over these variables, and room for so many.
+    pub fn new(alloc: Global, vars: u64, room: usize) -> Result<Draft, AllocError>
+        ensures { IfOk result (λ d. IsDraft (record { vars = vars; clauses = [] }) d.written d.clauses.items) }
     {
-        Draft {
+        Ok(Draft {
             written: Builder::new(alloc, vars),
-            clauses: Vec::new(alloc),
+            clauses: Vec::with_capacity(alloc, room)?,
             sorted: Vec::new(alloc),
-        }
+        })
     }
 
     /// Puts in order what is as it was written.

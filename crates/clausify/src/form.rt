@@ -20,6 +20,9 @@ use model_slice::{Places, Slice};
 use std::alloc::{AllocError, Global};
 use ut_logic::{Cnf, Fact, Facts, Formula};
 
+/// For how many clauses there is room at first, for each item. More take more room as they come.
+const CLAUSES_PER_ITEM: usize = 8;
+
 /// The clause form of the facts of the slice's nodes, in the order of these nodes, and of the wish. The only
 /// error is want of memory.
 ///
@@ -79,7 +82,8 @@ fn drafted(
     ensures vars { IfOk result (λ d. d.written.vars ≡ (order.form_over vars.now (map (λ f. f.now) facts.now) wish.now).vars) }
     ensures clauses { IfOk result (λ d. AreTidy (order.form_over vars.now (map (λ f. f.now) facts.now) wish.now).clauses d.clauses.items) }
 {
-    let mut draft = Draft::new(alloc, vars.items().len() as u64);
+    let count = vars.items().len();
+    let mut draft = Draft::new(alloc, count as u64, count.saturating_mul(CLAUSES_PER_ITEM))?;
     add_stage(alloc, vars, Stage::Symbols, facts, &mut draft)?;
     add_stage(alloc, vars, Stage::Starts, facts, &mut draft)?;
     add_stage(alloc, vars, Stage::Blocks, facts, &mut draft)?;

@@ -1,12 +1,13 @@
-ghost use Rattle.std.specs.Prelude.{◌≡◌, ◌<◌, length, slice_index_or, IfOk, OnOk};
+ghost use Rattle.std.specs.Prelude.{◌≡◌, ◌<◌, length, slice_index_or, IfOk};
 ghost use Rattle.std.specs.List.Sorted.{IsStrictlySortedBy};
 ghost use Rattle.ut_logic.specs.Node.{node_cmp};
 ghost use Rattle.ut_logic.specs.declared.node.Node as declared;
 ghost use Rattle.model_slice.specs.Closed.{IsLeastClosed, AreKnown};
-ghost use Rattle.model_slice.specs.Found.{Finds, added};
+ghost use Rattle.model_slice.specs.Found.{Finds};
 
 use crate::nodes::Slice;
 use crate::places::Places;
+use crate::seen::{add, unseen};
 use indexmap::IndexSet;
 use std::alloc::{AllocError, Global};
 use ut_logic::{Facts, Node, Sequence};
@@ -57,11 +58,12 @@ fn reached(
     ensures { IfOk result (λ found. IsLeastClosed facts.now.list roots.now found.keys) }
 {
     let mut found = IndexSet::new(alloc);
-    add(&mut found, roots)?;
+    let mut seen = unseen(alloc, facts.list.len())?;
+    add(&mut found, &mut seen, roots)?;
     let mut at = 0;
     while at < found.len() {
         let node = node_at(found.as_slice(), at);
-        add(&mut found, places.names(facts, node))?;
+        add(&mut found, &mut seen, places.names(facts, node))?;
         at += 1;
     }
     Ok(found)
@@ -72,14 +74,4 @@ fn node_at(found: &[Node], at: usize) -> Node
     ensures { (d : declared.Node) → slice_index_or found.now at d ≡ result }
 {
     found[at]
-}
-
-/// Adds those that are new, at the end.
-fn add(found: &mut IndexSet<Node>, more: &[Node]) -> Result<(), AllocError>
-    ensures { OnOk result (found.new.keys ≡ added found.old.keys more.now) }
-{
-    for node in more {
-        found.insert(*node)?;
-    }
-    Ok(())
 }
