@@ -10,7 +10,7 @@ use Rattle.ut_logic.specs.Facts.{MeetsAll}
 use Rattle.ut_logic.specs.Truth.{truths, all_true}
 use Rattle.clausify.specs.ClauseForm.{var_of}
 
--- the values agree on the variables up to n
+-- the values agree on the variables up to n, and on 0, which stands for the items that the list does not have
 abbrev pub Agree : ℕ → (ℕ → Bool) → (ℕ → Bool) → Type 0
 Agree n w u = (x : ℕ) → x ≤ n → w x ≡ u x
 

@@ -24,6 +24,7 @@ pub fn chosen<'a>(
     Ok(found)
 }
 
+/// Adds the fact of the node, if it has one.
 fn add_fact<'a>(
     found: &mut Vec<&'a Fact>,
     facts: &'a Facts,
@@ -42,6 +43,7 @@ fn add_fact<'a>(
     }
 }
 
+/// The fact at the place.
 fn fact_at(facts: &[Fact], place: usize) -> &Fact
     requires { place < length facts.now }
     ensures { (d : declared.Fact) → slice_index_or facts.now place d ≡ result.now }

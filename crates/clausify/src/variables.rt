@@ -44,7 +44,7 @@ impl Variables {
         let outers = outers(alloc, wish)?;
         items.extend_from_slice(&outers)?;
         let set = in_order(alloc, &items)?;
-        let symbols = symbols(alloc, &set)?;
+        let symbols = symbols(alloc, &set, facts.len())?;
         Ok(Variables { set, symbols })
     }
 
@@ -84,13 +84,13 @@ fn searched(set: &IndexSet<Item>, item: Item) -> u64
     }
 }
 
-/// The variables of the symbols whose numbers are below the number of items.
-fn symbols(alloc: Global, set: &IndexSet<Item>) -> Result<Vec<u64>, AllocError>
+/// The variables of the symbols whose numbers are below this.
+fn symbols(alloc: Global, set: &IndexSet<Item>, below: usize) -> Result<Vec<u64>, AllocError>
     ensures { IfOk result (λ vars. AreVariables set.now.keys vars.items) }
 {
-    let count = u32::try_from(set.len()).unwrap_or(u32::MAX);
-    let mut vars = Vec::with_capacity(alloc, set.len())?;
-    for sym in 0..count {
+    let below = u32::try_from(below).unwrap_or(u32::MAX);
+    let mut vars = Vec::with_capacity(alloc, below as usize)?;
+    for sym in 0..below {
         vars.push(searched(set, Item::SymY(sym)))?;
     }
     Ok(vars)
@@ -113,6 +113,7 @@ fn outers(alloc: Global, wish: &[Formula]) -> Result<Vec<Item>, AllocError>
     Ok(items)
 }
 
+/// Keeps the outer conditions alone.
 fn keep_outers(items: &mut Vec<Item>)
     ensures { items.new.items ≡ filter order.is_outer items.old.items }
 {
@@ -148,6 +149,7 @@ pub fn mention(f: &Formula, items: &mut Vec<Item>) -> Result<(), AllocError>
     }
 }
 
+/// Adds the items that the formulas mention.
 #[cycle(mention)]
 pub fn mention_each(list: &[Formula], items: &mut Vec<Item>) -> Result<(), AllocError>
     ensures { OnOk result (items.new.items ≡ items.old.items ++ together (map mentioned list.now)) }

@@ -69,6 +69,7 @@ fn reached(
     Ok(found)
 }
 
+/// The node at the place.
 fn node_at(found: &[Node], at: usize) -> Node
     requires { at < length found.now }
     ensures { (d : declared.Node) → slice_index_or found.now at d ≡ result }
