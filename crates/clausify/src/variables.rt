@@ -44,7 +44,7 @@ impl Variables {
         let outers = outers(alloc, wish)?;
         items.extend_from_slice(&outers)?;
         let set = in_order(alloc, &items)?;
-        let symbols = symbols(alloc, &set, facts.len())?;
+        let symbols = symbols(alloc, set.as_slice(), facts.len())?;
         Ok(Variables { set, symbols })
     }
 
@@ -54,8 +54,8 @@ impl Variables {
     {
         match item {
             Item::SymY(sym) => match self.symbols.get(sym as usize) {
-                Some(var) => *var,
-                None => searched(&self.set, item),
+                Some(var) if *var != 0 => *var,
+                _ => searched(&self.set, item),
             },
             _ => searched(&self.set, item),
         }
@@ -84,16 +84,31 @@ fn searched(set: &IndexSet<Item>, item: Item) -> u64
     }
 }
 
-/// The variables of the symbols whose numbers are below this.
-fn symbols(alloc: Global, set: &IndexSet<Item>, below: usize) -> Result<Vec<u64>, AllocError>
-    ensures { IfOk result (λ vars. AreVariables set.now.keys vars.items) }
+/// The variables of the symbols of these items whose numbers are below a bound.
+fn symbols(alloc: Global, items: &[Item], below: usize) -> Result<Vec<u64>, AllocError>
+    requires { AreDistinct items.now }
+    ensures { IfOk result (λ vars. AreVariables items.now vars.items) }
 {
-    let below = u32::try_from(below).unwrap_or(u32::MAX);
-    let mut vars = Vec::with_capacity(alloc, below as usize)?;
-    for sym in 0..below {
-        vars.push(searched(set, Item::SymY(sym)))?;
+    let mut vars = Vec::new(alloc);
+    vars.resize(below, 0)?;
+    for place in 0..items.len() {
+        number(&mut vars, items, place);
     }
     Ok(vars)
+}
+
+/// Notes the variable of the item at the place, if it is a symbol with a number below the bound.
+fn number(vars: &mut Vec<u64>, items: &[Item], place: usize)
+    requires distinct { AreDistinct items.now }
+    requires place { place < length items.now }
+    requires vars { AreVariables items.now vars.old.items }
+    ensures { AreVariables items.now vars.new.items }
+{
+    if let Item::SymY(sym) = items[place] {
+        if (sym as usize) < vars.len() {
+            vars[sym as usize] = place as u64 + 1;
+        }
+    }
 }
 
 /// Whether the item is an outer condition.
