@@ -1,5 +1,5 @@
 -- The clause form of a slice stands for its facts and the wish.
-use Rattle.std.proofs.Common.{◌≡◌, ℕ, zero, suc, ◌+◌, ◌≤◌, ◌<◌, ◌==◌, Bool, true, false, not, ◌||◌, ◌&&◌, cond, Option, None, Some, List, [], ◌∷◌, ◌++◌, length, map, filter, position, refl, sym, ap, subst, ◌∙◌, arith, rules, eqb}
+use Rattle.std.proofs.Common.{◌≡◌, ℕ, ◌≤◌, ◌<◌, ◌==◌, Bool, true, false, not, ◌||◌, cond, Option, None, Some, List, [], ◌∷◌, ◌++◌, length, map, filter, position, refl, sym, ap, subst, ◌∙◌, arith}
 use Rattle.std.proofs.lemmas.Grind.{common_steps}
 use Rattle.std.proofs.lemmas.Bool.{false≢true}
 use Rattle.std.proofs.lemmas.Bool.Decides.{nat_tests}
@@ -16,16 +16,15 @@ use Rattle.ut_logic.specs.declared.formula.Formula.{Formula}
 use Rattle.ut_logic.specs.Assign.{is_in}
 use Rattle.ut_logic.specs.Item.{item_eq}
 use Rattle.ut_logic.specs.ItemIdentity.{item_eq-Decides}
-use Rattle.ut_logic.specs.Facts.{IsDefined, Meets as MeetsFact, MeetsAll}
+use Rattle.ut_logic.specs.Facts.{IsDefined, Meets as MeetsFact}
 use Rattle.ut_logic.specs.Truth.{truths, all_true, mentioned, together}
 use Rattle.ut_logic.specs.Clauses.{AreWithin, IsModel}
 use Rattle.clausify.specs.declared.stage.Stage.{Stage}
 use Rattle.clausify.specs.declared.stage.Stage.TheVariants.{Symbols, Starts, Blocks, States}
-use Rattle.clausify.specs.Form.{Form}
 use Rattle.clausify.specs.ClauseForm.{var_at, var_of}
-use Rattle.clausify.specs.Order.{holds_in, defines_in, form_of, form_over, mentioned_in, items_of, outers_of, is_outer, AreListed, IsWishOver}
+use Rattle.clausify.specs.Order.{holds_in, defines_in, form_over, mentioned_in, items_of, outers_of, is_outer, AreListed, IsWishOver}
 use Rattle.clausify.specs.Tidy.{AreTidy}
-use Rattle.clausify.specs.Meaning.{Agree, items_under, AreMet, StandsFor}
+use Rattle.clausify.specs.Meaning.{items_under, AreMet, StandsFor}
 use Rattle.clausify.proofs.InSet.{is_in-any}
 use Rattle.clausify.proofs.Meets.{Meets, Within}
 use Rattle.clausify.proofs.Held.{Held}

@@ -5,13 +5,12 @@ use Rattle.ut_logic.specs.declared.item.Item.{Item}
 use Rattle.ut_logic.specs.declared.literals.Lit.{Lit}
 use Rattle.ut_logic.specs.declared.formula.Formula.{Formula, out-Formula}
 use Rattle.ut_logic.specs.declared.formula.Formula.TheOpen.{Formula-F}
-use Rattle.ut_logic.specs.declared.formula.Formula.TheViews.{roll-Formula}
 use Rattle.ut_logic.specs.declared.formula.Formula.TheFolds.{fold-roll-Formula, map-Formula, ind-Formula}
 use Rattle.ut_logic.specs.declared.facts.Definition.{Definition}
 use Rattle.ut_logic.specs.declared.facts.Fact.{Fact}
 use Rattle.clausify.specs.declared.stage.Stage.{Stage}
 use Rattle.clausify.specs.Form.{Form}
-use Rattle.clausify.specs.ClauseForm.{pos, neg, all_clauses, any_clauses, same_clauses, with_clauses, define, define_all, define_any, negate_first, joined, each_in_turn, in_turn, asserted, asserted_any, Ways, ways_step, ways, literal, literals, hold, hold_each, all_behind, any_behind, same_behind, defined_at, defined, defined_each}
+use Rattle.clausify.specs.ClauseForm.{pos, neg, all_clauses, any_clauses, same_clauses, with_clauses, define, define_all, define_any, negate_first, joined, asserted, asserted_any, Ways, ways_step, ways, literal, literals, hold, hold_each, all_behind, any_behind, same_behind, defined_at, defined, defined_each}
 use Rattle.clausify.specs.Order.{held_in, defined_in, staged}
 use Rattle.clausify.specs.Tidy.{AreTidy}
 use Rattle.clausify.specs.Draft.{behind, IsDraft}

@@ -1,6 +1,6 @@
 -- What a clause form says: its models are the assignments of its items that meet facts and wish, each
 -- extended to the inner nodes in one way. The usual meaning of clauses.
-use Rattle.std.specs.Prelude.{◌≡◌, ℕ, ◌≤◌, Bool, true, List, [], ◌∷◌, length}
+use Rattle.std.specs.Prelude.{◌≡◌, ℕ, ◌≤◌, Bool, true, List, length}
 use Rattle.ut_logic.specs.declared.item.Item.{Item}
 use Rattle.ut_logic.specs.declared.literals.Lit.{Lit}
 use Rattle.ut_logic.specs.declared.formula.Formula.{Formula}

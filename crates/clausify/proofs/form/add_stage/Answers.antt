@@ -1,4 +1,4 @@
-use Rattle.std.proofs.Common.{◌+◌, Bor, take, map, sym, subst}
+use Rattle.std.proofs.Common.{Bor, take, map, sym, subst}
 use Rattle.ut_logic.specs.declared.facts.Fact.{Fact}
 use Rattle.clausify.specs.Form.{Form}
 use Rattle.clausify.specs.ClauseForm.{var_of}

@@ -1,4 +1,4 @@
-use Rattle.std.proofs.Common.{◌≡◌, List, Bor, map, sym, ap, subst, ◌∙◌}
+use Rattle.std.proofs.Common.{List, Bor, map, sym, ap, subst, ◌∙◌}
 use Rattle.ut_logic.specs.declared.node.Node.{Node}
 use Rattle.ut_logic.specs.declared.facts.Fact.{Fact}
 use Rattle.ut_logic.specs.declared.literals.Lit.{Lit}
