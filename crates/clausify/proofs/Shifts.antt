@@ -1,5 +1,6 @@
 -- What is added to a form does not depend on the clauses that it has, so that its first clauses can be put in order before.
-use Rattle.std.proofs.Common.{◌≡◌, ℕ, ◌+◌, ◌<◌, Bor, List, [], ◌∷◌, ◌++◌, length, get_or, take, map, refl, sym, ap, subst, ◌∙◌}
+use Rattle.std.proofs.Common.{◌≡◌, ℕ, ◌+◌, ◌<◌, Bor, Bool, true, false, ◌||◌, cond, List, [], ◌∷◌, ◌++◌, length, get_or, take, map, refl, sym, ap, subst, ◌∙◌, arith}
+use Rattle.std.proofs.lemmas.Grind.{common_steps}
 use Rattle.std.proofs.lemmas.List.{append_assoc, append-nil, take_more, map-append}
 use Rattle.ut_logic.specs.declared.item.Item.{Item}
 use Rattle.ut_logic.specs.declared.literals.Lit.{Lit}
@@ -8,10 +9,11 @@ use Rattle.ut_logic.specs.declared.formula.Formula.TheOpen.{Formula-F}
 use Rattle.ut_logic.specs.declared.formula.Formula.TheFolds.{fold-roll-Formula, map-Formula, ind-Formula}
 use Rattle.ut_logic.specs.declared.facts.Definition.{Definition}
 use Rattle.ut_logic.specs.declared.facts.Fact.{Fact}
+use Rattle.ut_logic.specs.declared.node.Node.{Node}
 use Rattle.clausify.specs.declared.stage.Stage.{Stage}
 use Rattle.clausify.specs.Form.{Form}
 use Rattle.clausify.specs.ClauseForm.{pos, neg, all_clauses, any_clauses, same_clauses, with_clauses, define, define_all, define_any, negate_first, joined, asserted, asserted_any, Ways, ways_step, ways, literal, literals, hold, hold_each, all_behind, any_behind, same_behind, defined_at, defined, defined_each}
-use Rattle.clausify.specs.Order.{held_in, defined_in, staged}
+use Rattle.clausify.specs.Order.{holds_in, defines_in, held_in, defined_in, staged}
 use Rattle.clausify.specs.Tidy.{AreTidy}
 use Rattle.clausify.specs.Draft.{behind, IsDraft}
 
@@ -29,6 +31,10 @@ move_define front s cs = ap (λ (ks : List (List Lit)). (pos (s.vars + 1), recor
 record Shifts (m : Ways) : Type 0 where
   pub literal : (front : List (List Lit)) (s : Form) → m.literal (behind front s) ≡ ahead front (m.literal s)
   pub held : (front : List (List Lit)) (s : Form) → m.held (behind front s) ≡ behind front (m.held s)
+
+neither : (a b : Bool) → (a || b) ≡ false → (a ≡ false) × (b ≡ false)
+neither true b h = (grind (arith, common_steps, h), grind (arith, common_steps, h))
+neither false b h = (refl, h)
 
 module _ (at : Item → ℕ) where
   abbrev Each : Type 0
@@ -103,6 +109,12 @@ module _ (at : Item → ℕ) where
 
   pub draft_defined : (ds : List Definition) (s w : Form) (cs : List (List Lit)) → IsDraft s w cs → IsDraft (defined_each at ds s) (defined_each at ds w) cs
   draft_defined ds s w cs d = record { front = d.front; is = ap (λ (t : Form). defined_each at ds t) d.is ∙ defines_move ds d.front w; tidy = d.tidy }
+
+  -- a fact whose node comes in another stage leaves the form as it is
+  pub skipped : (stage : Stage) (f : Fact) (s : Form) → (holds_in stage f.node || defines_in stage f.node) ≡ false
+      → s ≡ defined_each at (defined_in stage f) (hold_each at (held_in stage f) s)
+  skipped stage f s h = let no = neither (holds_in stage f.node) (defines_in stage f.node) h in
+      sym (ap (λ (b : Bool). defined_each at (defined_in stage f) (hold_each at (cond b f.holds []) s)) no.0 ∙ ap (λ (b : Bool). defined_each at (cond b f.defines []) s) no.1)
 
   -- one fact more
   pub staged_one : (stage : Stage) (fs : List Fact) (f : Fact) (s : Form)

@@ -50,3 +50,14 @@ fn fact_at(facts: &[Fact], place: usize) -> &Fact
 {
     &facts[place]
 }
+
+/// The nodes of the facts, in one list, so that the facts need not be read to look through them.
+pub fn nodes_of(alloc: Global, facts: &[&Fact]) -> Result<Vec<Node>, AllocError>
+    ensures { IfOk result (λ v. v.items ≡ map (λ f. f.now.node) facts.now) }
+{
+    let mut nodes = Vec::with_capacity(alloc, facts.len())?;
+    for fact in facts {
+        nodes.push(fact.node)?;
+    }
+    Ok(nodes)
+}

@@ -11,14 +11,14 @@ ghost use Rattle.clausify.specs.Draft.{IsDraft};
 ghost use Rattle.clausify.specs.Tidy.{AreTidy};
 
 use crate::builder::Builder;
-use crate::chosen::chosen;
+use crate::chosen::{chosen, nodes_of};
 use crate::draft::Draft;
 use crate::hold::{define_each, hold_each};
 use crate::stage::Stage;
 use crate::variables::Variables;
 use model_slice::{Places, Slice};
 use std::alloc::{AllocError, Global};
-use ut_logic::{Cnf, Fact, Facts, Formula};
+use ut_logic::{Cnf, Fact, Facts, Formula, Node};
 
 /// For how many clauses there is room at first, for each item. More take more room as they come.
 const CLAUSES_PER_ITEM: usize = 8;
@@ -82,12 +82,13 @@ fn drafted(
     ensures vars { IfOk result (λ d. d.written.vars ≡ (order.form_over vars.now (map (λ f. f.now) facts.now) wish.now).vars) }
     ensures clauses { IfOk result (λ d. AreTidy (order.form_over vars.now (map (λ f. f.now) facts.now) wish.now).clauses d.clauses.items) }
 {
+    let nodes = nodes_of(alloc, facts)?;
     let count = vars.items().len();
     let mut draft = Draft::new(alloc, count as u64, count.saturating_mul(CLAUSES_PER_ITEM))?;
-    add_stage(alloc, vars, Stage::Symbols, facts, &mut draft)?;
-    add_stage(alloc, vars, Stage::Starts, facts, &mut draft)?;
-    add_stage(alloc, vars, Stage::Blocks, facts, &mut draft)?;
-    add_stage(alloc, vars, Stage::States, facts, &mut draft)?;
+    add_stage(alloc, vars, Stage::Symbols, &nodes, facts, &mut draft)?;
+    add_stage(alloc, vars, Stage::Starts, &nodes, facts, &mut draft)?;
+    add_stage(alloc, vars, Stage::Blocks, &nodes, facts, &mut draft)?;
+    add_stage(alloc, vars, Stage::States, &nodes, facts, &mut draft)?;
     add_wish(alloc, vars, wish, &mut draft)?;
     Ok(draft)
 }
@@ -107,24 +108,45 @@ fn add_wish(
     Ok(())
 }
 
-/// Adds the clauses of a stage.
+/// Adds the clauses of a stage: it reads the facts that come in it, and no others.
 fn add_stage(
     alloc: Global,
     vars: &Variables,
     stage: Stage,
+    nodes: &[Node],
     facts: &[&Fact],
     draft: &mut Draft,
 ) -> Result<(), AllocError>
+    requires { nodes.now ≡ map (λ f. f.now.node) facts.now }
     ensures { OnOk result ((s : spec.Form) → IsDraft s draft.old.written draft.old.clauses.items → IsDraft (order.staged (var_of vars.now) stage (map (λ f. f.now) facts.now) s) draft.new.written draft.new.clauses.items) }
 {
-    for fact in facts {
-        add_fact(alloc, vars, stage, fact, draft)?;
+    for place in 0..facts.len() {
+        add_fact(alloc, vars, stage, nodes[place], facts[place], draft)?;
     }
     Ok(())
 }
 
-/// Adds the clauses of a fact in a stage.
+/// Adds the clauses of the node's fact in a stage, if there are any.
 fn add_fact(
+    alloc: Global,
+    vars: &Variables,
+    stage: Stage,
+    node: Node,
+    fact: &Fact,
+    draft: &mut Draft,
+) -> Result<(), AllocError>
+    requires { node ≡ fact.now.node }
+    ensures { OnOk result ((s : spec.Form) → IsDraft s draft.old.written draft.old.clauses.items → IsDraft (defined_each (var_of vars.now) (order.defined_in stage fact.now) (hold_each (var_of vars.now) (order.held_in stage fact.now) s)) draft.new.written draft.new.clauses.items) }
+{
+    if stage.takes(node) {
+        add_taken(alloc, vars, stage, fact, draft)
+    } else {
+        Ok(())
+    }
+}
+
+/// Adds the clauses of a fact in a stage.
+fn add_taken(
     alloc: Global,
     vars: &Variables,
     stage: Stage,

@@ -6,6 +6,6 @@ use Rattle.clausify.specs.Order.{staged}
 use Rattle.clausify.specs.Draft.{IsDraft}
 use Rattle.clausify.proofs.form.add_stage.Given as goal
 
-abbrev pub invariant-loop-fact : goal.invariant-loop-fact
-invariant-loop-fact l = (s : Form) → IsDraft s l.initial.draft.written l.initial.draft.clauses.items
-    → IsDraft (staged (var_of l.vars) l.fn.stage (map (λ f. f.now) (take l.fact-index l.facts)) s) l.draft.written l.draft.clauses.items
+abbrev pub invariant-loop-place : goal.invariant-loop-place
+invariant-loop-place l = (s : Form) → IsDraft s l.initial.draft.written l.initial.draft.clauses.items
+    → IsDraft (staged (var_of l.vars) l.fn.stage (map (λ f. f.now) (take l.place l.facts)) s) l.draft.written l.draft.clauses.items
