@@ -9,7 +9,6 @@ use Rattle.ut_logic.specs.declared.formula.Formula.TheOpen.{Formula-F}
 use Rattle.ut_logic.specs.declared.formula.Formula.TheFolds.{fold-roll-Formula, map-Formula, ind-Formula}
 use Rattle.ut_logic.specs.declared.facts.Definition.{Definition}
 use Rattle.ut_logic.specs.declared.facts.Fact.{Fact}
-use Rattle.ut_logic.specs.declared.node.Node.{Node}
 use Rattle.clausify.specs.declared.stage.Stage.{Stage}
 use Rattle.clausify.specs.Form.{Form}
 use Rattle.clausify.specs.ClauseForm.{pos, neg, all_clauses, any_clauses, same_clauses, with_clauses, define, define_all, define_any, negate_first, joined, asserted, asserted_any, Ways, ways_step, ways, literal, literals, hold, hold_each, all_behind, any_behind, same_behind, defined_at, defined, defined_each}

@@ -1,4 +1,4 @@
-use Rattle.std.proofs.Common.{Bool, ◌||◌, false, sym, ap, subst, ◌∙◌}
+use Rattle.std.proofs.Common.{◌||◌, sym, ap, subst, ◌∙◌}
 use Rattle.ut_logic.specs.declared.node.Node.{Node}
 use Rattle.clausify.specs.Form.{Form}
 use Rattle.clausify.specs.ClauseForm.{var_of}
