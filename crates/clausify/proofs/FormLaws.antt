@@ -1,5 +1,5 @@
 -- The clause form of a slice stands for its facts and the wish.
-use Rattle.std.proofs.Common.{◌≡◌, ℕ, zero, suc, ◌+◌, ◌≤◌, ◌<◌, ◌==◌, Bool, true, false, not, ◌||◌, ◌&&◌, cond, Option, None, Some, List, [], ◌∷◌, ◌++◌, length, map, filter, position, refl, sym, ap, subst, ◌∙◌, arith, rules, eqb}
+use Rattle.std.proofs.Common.{◌≡◌, ℕ, ◌≤◌, ◌<◌, ◌==◌, Bool, true, false, not, ◌||◌, cond, Option, None, Some, List, [], ◌∷◌, ◌++◌, length, map, filter, position, refl, sym, ap, subst, ◌∙◌, arith}
 use Rattle.std.proofs.lemmas.Grind.{common_steps}
 use Rattle.std.proofs.lemmas.Bool.{false≢true}
 use Rattle.std.proofs.lemmas.Bool.Decides.{nat_tests}
@@ -16,16 +16,15 @@ use Rattle.ut_logic.specs.declared.formula.Formula.{Formula}
 use Rattle.ut_logic.specs.Assign.{is_in}
 use Rattle.ut_logic.specs.Item.{item_eq}
 use Rattle.ut_logic.specs.ItemIdentity.{item_eq-Decides}
-use Rattle.ut_logic.specs.Facts.{IsDefined, Meets as MeetsFact, MeetsAll}
+use Rattle.ut_logic.specs.Facts.{IsDefined, Meets as MeetsFact}
 use Rattle.ut_logic.specs.Truth.{truths, all_true, mentioned, together}
 use Rattle.ut_logic.specs.Clauses.{AreWithin, IsModel}
 use Rattle.clausify.specs.declared.stage.Stage.{Stage}
 use Rattle.clausify.specs.declared.stage.Stage.TheVariants.{Symbols, Starts, Blocks, States}
-use Rattle.clausify.specs.Form.{Form}
 use Rattle.clausify.specs.ClauseForm.{var_at, var_of}
-use Rattle.clausify.specs.Order.{holds_in, defines_in, form_of, form_over, mentioned_in, items_of, outers_of, is_outer, AreListed, IsWishOver}
+use Rattle.clausify.specs.Order.{holds_in, defines_in, form_over, mentioned_in, items_of, outers_of, is_outer, AreListed, IsWishOver}
 use Rattle.clausify.specs.Tidy.{AreTidy}
-use Rattle.clausify.specs.Meaning.{Agree, items_under, AreMet, StandsFor}
+use Rattle.clausify.specs.Meaning.{items_under, AreMet, StandsFor}
 use Rattle.clausify.proofs.InSet.{is_in-any}
 use Rattle.clausify.proofs.Meets.{Meets, Within}
 use Rattle.clausify.proofs.Held.{Held}
@@ -173,14 +172,13 @@ pub record Finished (items : List Item) (fs : List Fact) (wish : List Formula) (
   pub tidy : AreTidy (form_over items fs wish).clauses cs
   pub means : StandsFor items fs wish count cs
 
-pub finished : (vars items : List Item) (fs gs hs : List Fact) (wish : List Formula) (b : Form) (count : ℕ) (ws cs : List (List Lit))
-    → gs ≡ fs → hs ≡ fs → ((i : Item) → is_in vars i ≡ is_in (items_of gs ++ outers_of wish) i) → b ≡ form_over vars hs wish → ws ≡ b.clauses → AreTidy ws cs
-    → items ≡ vars → count ≡ b.vars → AreListed fs → IsWishOver fs wish → Finished items fs wish count cs
-finished vars items fs gs hs wish b count ws cs same_g same_h members is_form is_written tidy same_items same_count listed over =
+pub finished : (vars items : List Item) (fs gs hs : List Fact) (wish : List Formula) (count : ℕ) (cs : List (List Lit))
+    → gs ≡ fs → hs ≡ fs → ((i : Item) → is_in vars i ≡ is_in (items_of gs ++ outers_of wish) i) → count ≡ (form_over vars hs wish).vars → AreTidy (form_over vars hs wish).clauses cs
+    → items ≡ vars → AreListed fs → IsWishOver fs wish → Finished items fs wish count cs
+finished vars items fs gs hs wish count cs same_g same_h members same_count tidy same_items listed over =
     let m : (i : Item) → is_in vars i ≡ is_in (items_of fs ++ outers_of wish) i = λ i. members i ∙ ap (λ (ks : List Fact). is_in (items_of ks ++ outers_of wish) i) same_g in
-    let form : b ≡ form_over vars fs wish = is_form ∙ ap (λ (ks : List Fact). form_over vars ks wish) same_h in
-    let t : AreTidy (form_over vars fs wish).clauses cs = subst (λ (ks : List (List Lit)). AreTidy ks cs) (is_written ∙ ap (λ (f : Form). f.clauses) form) tidy in
-    let n : count ≡ (form_over vars fs wish).vars = same_count ∙ ap (λ (f : Form). f.vars) form in
+    let t : AreTidy (form_over vars fs wish).clauses cs = subst (λ (ks : List Fact). AreTidy (form_over vars ks wish).clauses cs) same_h tidy in
+    let n : count ≡ (form_over vars fs wish).vars = same_count ∙ ap (λ (ks : List Fact). (form_over vars ks wish).vars) same_h in
     let base : Finished vars fs wish (form_over vars fs wish).vars cs = record {
       named_by = named vars fs wish m listed over;
       within = in_range vars fs wish m listed over cs t;

@@ -1,5 +1,5 @@
 -- What a part of the clause form adds: clauses that give the new variables one value each.
-use Rattle.std.proofs.Common.{◌≡◌, ℕ, ◌≤◌, Bool, List, [], ◌++◌, refl, sym, ap, ◌∙◌, rules, arith, append_assoc}
+use Rattle.std.proofs.Common.{◌≡◌, ℕ, ◌≤◌, Bool, List, [], ◌++◌, refl, ap, ◌∙◌, rules, arith, append_assoc}
 use Rattle.ut_logic.specs.declared.literals.Lit.{Lit}
 use Rattle.clausify.specs.Form.{Form}
 use Rattle.clausify.specs.Meaning.{Agree}

@@ -1,5 +1,5 @@
 -- What is held adds clauses that can be met just where it is true, and in one way.
-use Rattle.std.proofs.Common.{◌≡◌, ℕ, ◌≤◌, Bool, List, [], ◌++◌, refl, sym, ap, ◌∙◌, rules, arith, append_assoc}
+use Rattle.std.proofs.Common.{◌≡◌, ℕ, ◌≤◌, Bool, List, [], ◌++◌, refl, ap, ◌∙◌, rules, arith, append_assoc}
 use Rattle.ut_logic.specs.declared.literals.Lit.{Lit}
 use Rattle.clausify.specs.Form.{Form}
 use Rattle.clausify.specs.ClauseForm.{with_clauses}

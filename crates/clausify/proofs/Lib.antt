@@ -10,5 +10,7 @@ pub mod Held
 pub mod WaysLaws
 pub mod OrderLaws
 pub mod Models
+pub mod NumberedLaws
+pub mod Shifts
 pub mod FormLaws
 pub mod KnownLaws

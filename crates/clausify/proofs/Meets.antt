@@ -1,5 +1,5 @@
 -- Clauses that are met: each has a true literal.
-use Rattle.std.proofs.Common.{◌≡◌, ℕ, ◌+◌, ◌≤◌, ◌<◌, Bool, true, not, cond, List, [], ◌∷◌, ◌++◌, map, refl, sym, ap, ◌∙◌, arith}
+use Rattle.std.proofs.Common.{◌≡◌, ℕ, ◌≤◌, ◌<◌, Bool, true, not, cond, List, [], ◌∷◌, ◌++◌, map, refl, sym, ap, ◌∙◌, arith}
 use Rattle.ut_logic.specs.declared.literals.Lit.{Lit}
 use Rattle.ut_logic.specs.Clauses.{value_of, negated}
 use Rattle.ut_logic.specs.Truth.{any_true}

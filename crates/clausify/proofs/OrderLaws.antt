@@ -1,13 +1,10 @@
 -- What the stages and the wish add can be met just where facts and wish are met, and in one way.
-use Rattle.std.proofs.Common.{◌≡◌, ℕ, zero, suc, ◌≤◌, ◌<◌, ◌==◌, Bool, true, false, not, ◌&&◌, ◌||◌, cond, List, [], ◌∷◌, ◌++◌, map, refl, sym, ap, subst, ◌∙◌, arith}
+use Rattle.std.proofs.Common.{◌≡◌, ℕ, ◌≤◌, ◌<◌, Bool, true, false, not, ◌||◌, cond, List, [], ◌∷◌, map, refl, sym, ap, subst, ◌∙◌, arith}
 use Rattle.std.specs.List.{AllByRecursion}
 use Rattle.std.proofs.lemmas.Bool.{false≢true}
 use Rattle.std.proofs.lemmas.Cmp.{eq_by_cmp_equiv}
 use Rattle.ut_logic.specs.Item.{item_total}
 use Rattle.ut_logic.specs.declared.item.Item.{Item}
-use Rattle.ut_logic.specs.declared.literals.Lit.{Lit}
-use Rattle.ut_logic.specs.declared.node.Node.{Node}
-use Rattle.ut_logic.specs.declared.node.Node.TheVariants.{Sym, Choice, Block, State}
 use Rattle.ut_logic.specs.declared.facts.Definition.{Definition}
 use Rattle.ut_logic.specs.declared.facts.Fact.{Fact}
 use Rattle.ut_logic.specs.declared.formula.Formula.{Formula, out-Formula}
@@ -21,11 +18,11 @@ use Rattle.ut_logic.proofs.MentionLaws.{mentioned_at, mentioned_out}
 use Rattle.clausify.specs.declared.stage.Stage.{Stage}
 use Rattle.clausify.specs.declared.stage.Stage.TheVariants.{Symbols, Starts, Blocks, States}
 use Rattle.clausify.specs.Form.{Form}
-use Rattle.clausify.specs.ClauseForm.{ways, pos, neg, literal, literals, hold, hold_each, defined, defined_at, defined_each, in_turn, each_in_turn, all_behind, any_behind, same_behind, all_clauses, any_clauses, same_clauses, with_clauses}
+use Rattle.clausify.specs.ClauseForm.{pos, neg, literal, literals, hold, hold_each, defined, defined_at, defined_each, same_behind, all_clauses, any_clauses, same_clauses}
 use Rattle.clausify.specs.Order.{holds_in, defines_in, held_in, defined_in, staged, form_of, mentioned_of, mentioned_in}
 use Rattle.clausify.specs.Meaning.{Agree}
-use Rattle.clausify.proofs.Meets.{Meets, LitsWithin, lits_true, all_within, any_within, same_within}
-use Rattle.clausify.proofs.Grows.{Grows, stays, then_grows, weaker}
+use Rattle.clausify.proofs.Meets.{Meets, lits_true, all_within, any_within, same_within}
+use Rattle.clausify.proofs.Grows.{stays, then_grows, weaker}
 use Rattle.clausify.proofs.Define.{all_if, all_met, any_if, any_met, same_if_met, met_if_same}
 use Rattle.clausify.proofs.Held.{Held, held_none, then_held, held_as, held_after}
 use Rattle.clausify.proofs.WaysLaws.{Makes, MakesEach, HaveVariables, have_front, have_back, works, means_alike, all_alike, and_first, and_second, and_both, or_only}

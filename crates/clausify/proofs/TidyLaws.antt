@@ -1,10 +1,10 @@
 -- Sorting a clause and dropping what repeats leaves its literals in order, unless it has both signs of a variable.
 use mathlib.Core.Bool.{beq}
-use Rattle.std.proofs.Common.{◌≡◌, ℕ, zero, suc, ◌+◌, ◌<◌, ◌≤◌, Bool, true, false, not, ◌||◌, ◌&&◌, cond, List, [], ◌∷◌, ◌++◌, length, get_or, take, filter, refl, sym, ap, subst, ◌∙◌, ◌⊎◌, inl, inr, ⊎_elim, arith, rules, eqb}
+use Rattle.std.proofs.Common.{◌≡◌, ℕ, zero, suc, ◌+◌, ◌<◌, Bool, true, false, not, ◌||◌, ◌&&◌, cond, List, [], ◌∷◌, ◌++◌, length, get_or, take, filter, refl, sym, ap, subst, ◌∙◌, ◌⊎◌, inl, inr, arith, eqb}
 use Rattle.std.proofs.lemmas.Grind.{common_steps}
 use Rattle.std.proofs.lemmas.Bool.{false≢true, eqb-true, cases_lt}
 use Rattle.std.proofs.lemmas.Bool.Decides.{nat_tests}
-use Rattle.std.proofs.lemmas.List.{get_or_default, take_more, append-nil}
+use Rattle.std.proofs.lemmas.List.{get_or_default, take_more, append-nil, append_assoc}
 use Rattle.std.proofs.lemmas.List.Folds.{Any-from_list_any, list_any-from_Any, list_any_at}
 use Rattle.std.proofs.lemmas.List.Filters.{dedup_is}
 use Rattle.std.proofs.lemmas.List.Elements.{filter-append, AllZip-push}
@@ -167,19 +167,24 @@ module _ (lits sorted kept : List Lit) (moved : IsPermutation lits sorted) (filt
       by false e = absurd (n (ordered_from kept e kept (λ z h. h) strictly))
 
 -- one more clause is written
-pub tidy_more : (written cs ds : List (List Lit)) (k : ℕ) (d : List Lit) → k < length written → AreTidy (take k written) cs → AddsTidy (get_or written k d) cs ds → AreTidy (take (k + 1) written) ds
-tidy_more written cs ds k d h t a = subst (λ ws. AreTidy ws ds) (sym (take_more written k d h)) (elim a [ inl both ↦ left both | inr one ↦ right one ])
+one_tidy : (ws cs ds : List (List Lit)) (x : List Lit) → AreTidy ws cs → AddsTidy x cs ds → AreTidy (ws ++ x ∷ []) ds
+one_tidy ws cs ds x t a = elim a [ inl both ↦ left both | inr one ↦ right one ]
   where
-    left : (has_both_signs (get_or written k d) ≡ true) × (ds ≡ cs) → AreTidy (take k written ++ get_or written k d ∷ []) ds
-    left both = let x : List Lit = get_or written k d in
-        let kept : List (List Lit) = filter (λ ls. not (has_both_signs ls)) (take k written) in
-        let e : filter (λ ls. not (has_both_signs ls)) (take k written ++ x ∷ []) ≡ kept =
-        filter-append (λ ls. not (has_both_signs ls)) (take k written) (x ∷ []) ∙ (ap (λ b. kept ++ cond (not b) (x ∷ []) []) both.0 ∙ append-nil kept) in
+    kept : List (List Lit)
+    kept = filter (λ ls. not (has_both_signs ls)) ws
+
+    left : (has_both_signs x ≡ true) × (ds ≡ cs) → AreTidy (ws ++ x ∷ []) ds
+    left both =
+        let e : filter (λ ls. not (has_both_signs ls)) (ws ++ x ∷ []) ≡ kept =
+        filter-append (λ ls. not (has_both_signs ls)) ws (x ∷ []) ∙ (ap (λ b. kept ++ cond (not b) (x ∷ []) []) both.0 ∙ append-nil kept) in
         subst (λ zs. AllZip IsTidy zs ds) (sym e) (subst (λ es. AllZip IsTidy kept es) (sym both.1) t)
 
-    right : (c : List Lit) × (has_both_signs (get_or written k d) ≡ false) × IsTidy (get_or written k d) c × (ds ≡ cs ++ c ∷ []) → AreTidy (take k written ++ get_or written k d ∷ []) ds
-    right one = let x : List Lit = get_or written k d in
-        let kept : List (List Lit) = filter (λ ls. not (has_both_signs ls)) (take k written) in
-        let e : filter (λ ls. not (has_both_signs ls)) (take k written ++ x ∷ []) ≡ kept ++ x ∷ [] =
-        filter-append (λ ls. not (has_both_signs ls)) (take k written) (x ∷ []) ∙ ap (λ b. kept ++ cond (not b) (x ∷ []) []) one.1 in
+    right : (c : List Lit) × (has_both_signs x ≡ false) × IsTidy x c × (ds ≡ cs ++ c ∷ []) → AreTidy (ws ++ x ∷ []) ds
+    right one =
+        let e : filter (λ ls. not (has_both_signs ls)) (ws ++ x ∷ []) ≡ kept ++ x ∷ [] =
+        filter-append (λ ls. not (has_both_signs ls)) ws (x ∷ []) ∙ ap (λ b. kept ++ cond (not b) (x ∷ []) []) one.1 in
         subst (λ zs. AllZip IsTidy zs ds) (sym e) (subst (λ es. AllZip IsTidy (kept ++ x ∷ []) es) (sym one.3) (AllZip-push IsTidy kept cs x one.0 t one.2))
+
+pub tidy_more : (front written cs ds : List (List Lit)) (k : ℕ) (d : List Lit) → k < length written → AreTidy (front ++ take k written) cs → AddsTidy (get_or written k d) cs ds → AreTidy (front ++ take (k + 1) written) ds
+tidy_more front written cs ds k d h t a = let x = get_or written k d in
+    subst (λ ws. AreTidy ws ds) (append_assoc front (take k written) (x ∷ []) ∙ ap (λ (ws : List (List Lit)). front ++ ws) (sym (take_more written k d h))) (one_tidy (front ++ take k written) cs ds x t a)

@@ -1,6 +1,5 @@
 -- The literal of a formula has its truth, and what a formula that is held adds can be met just where it is true.
 use Rattle.std.proofs.Common.{◌≡◌, ℕ, ◌≤◌, ◌<◌, Bool, true, false, not, ◌&&◌, ◌||◌, List, [], ◌∷◌, ◌++◌, map, refl, sym, ap, subst, ◌∙◌, arith}
-use Rattle.std.specs.List.{list_any}
 use Rattle.std.proofs.lemmas.Bool.{false≢true}
 use Rattle.std.proofs.lemmas.Cmp.{eq_by_cmp_equiv}
 use Rattle.std.proofs.lemmas.List.Folds.{list_any-append}
@@ -12,12 +11,12 @@ use Rattle.ut_logic.specs.declared.formula.Formula.TheViews.{roll-Formula}
 use Rattle.ut_logic.specs.declared.formula.Formula.TheFolds.{fold-roll-Formula, map-Formula, ind-Formula}
 use Rattle.ut_logic.specs.Assign.{is_in}
 use Rattle.ut_logic.specs.Item.{item_eq, item_total}
-use Rattle.ut_logic.specs.Clauses.{value_of, negated}
+use Rattle.ut_logic.specs.Clauses.{value_of}
 use Rattle.ut_logic.specs.Truth.{truth, truth_step, all_true, any_true, mentioned, mention_step, together}
 use Rattle.clausify.specs.Form.{Form}
 use Rattle.clausify.specs.ClauseForm.{Ways, ways, ways_step, define_all, define_any, negate_first, each_in_turn, in_turn, asserted, asserted_any}
 use Rattle.clausify.specs.Meaning.{Agree}
-use Rattle.clausify.proofs.Meets.{Meets, LitWithin, LitsWithin, lits_true, lits_wider}
+use Rattle.clausify.proofs.Meets.{LitWithin, LitsWithin, lits_true}
 use Rattle.clausify.proofs.Grows.{Grows, stays, then_grows, weaker}
 use Rattle.clausify.proofs.Define.{value_of-negated, defines_all, defines_any}
 use Rattle.clausify.proofs.Held.{Held, held_none, then_held, held_as, held_after}

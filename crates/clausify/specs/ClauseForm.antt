@@ -1,7 +1,7 @@
 -- The clauses of formulas, with a new variable for each inner node: Tseitin's translation, in the order in
 -- which this project writes it. A formula that is held, an item that a formula defines, and an inner node
 -- of a formula each have their own clauses; those of inner nodes come before those that use them.
-use Rattle.std.specs.Prelude.{◌≡◌, ℕ, ◌+◌, Bool, true, false, not, List, [], ◌∷◌, ◌++◌, map, position, Option, None, Some}
+use Rattle.std.specs.Prelude.{ℕ, ◌+◌, true, false, List, [], ◌∷◌, ◌++◌, map, position, Option, None, Some}
 use Rattle.ut_logic.specs.declared.item.Item.{Item}
 use Rattle.ut_logic.specs.declared.literals.Lit.{Lit}
 use Rattle.ut_logic.specs.declared.facts.Definition.{Definition}

@@ -1,6 +1,6 @@
 -- What a clause form says: its models are the assignments of its items that meet facts and wish, each
 -- extended to the inner nodes in one way. The usual meaning of clauses.
-use Rattle.std.specs.Prelude.{◌≡◌, ℕ, ◌≤◌, Bool, true, List, [], ◌∷◌, length}
+use Rattle.std.specs.Prelude.{◌≡◌, ℕ, ◌≤◌, Bool, true, List, length}
 use Rattle.ut_logic.specs.declared.item.Item.{Item}
 use Rattle.ut_logic.specs.declared.literals.Lit.{Lit}
 use Rattle.ut_logic.specs.declared.formula.Formula.{Formula}
@@ -10,7 +10,7 @@ use Rattle.ut_logic.specs.Facts.{MeetsAll}
 use Rattle.ut_logic.specs.Truth.{truths, all_true}
 use Rattle.clausify.specs.ClauseForm.{var_of}
 
--- the values agree on the variables up to n
+-- the values agree on the variables up to n, and on 0, which stands for the items that the list does not have
 abbrev pub Agree : ℕ → (ℕ → Bool) → (ℕ → Bool) → Type 0
 Agree n w u = (x : ℕ) → x ≤ n → w x ≡ u x
 

@@ -1,4 +1,4 @@
-ghost use Rattle.std.specs.Prelude.{◌≡◌, ◌+◌, ◌≤◌, ◌<◌, ◌^◌, ◌∷◌, [], ◌++◌, length, IfOk, OnOk};
+ghost use Rattle.std.specs.Prelude.{◌≡◌, ◌+◌, ◌∷◌, [], ◌++◌, IfOk, OnOk};
 ghost use Rattle.clausify.specs.ClauseForm as spec;
 
 use crate::lits::{Lits, negated, negative, positive};
@@ -6,7 +6,8 @@ use std::alloc::{AllocError, Global};
 use std::marker::Model;
 use ut_logic::Lit;
 
-/// A clause form as it grows. After an error it holds some further clauses.
+/// A clause form as it grows, or what is written of it since its clauses were last left out. After an error it
+/// holds some further clauses.
 #[derive(Drop)]
 pub struct Builder {
     vars: u64,
@@ -14,20 +15,16 @@ pub struct Builder {
 }
 
 impl Model for Builder {
-    ghost use Rattle.std.specs.Prelude.{◌≤◌, ◌+◌, ◌^◌, length};
     ghost use Rattle.clausify.specs.Form.{Form};
 
     ghost Value = { Form };
 
     ghost view = { λ b. record { vars = b.vars; clauses = b.clauses.items } };
-
-    ghost invariant = { λ b. b.vars ≤ 2 ^ 63 + length b.clauses.items };
 }
 
 impl Builder {
     /// No clauses over these variables.
     pub fn new(alloc: Global, vars: u64) -> Builder
-        requires { vars ≤ 2 ^ 63 }
         ensures { result ≡ record { vars = vars; clauses = [] } }
     {
         Builder {
@@ -48,6 +45,13 @@ impl Builder {
         ensures { result.now ≡ self.now.clauses }
     {
         self.clauses.as_slice()
+    }
+
+    /// Leaves out all clauses so far, and keeps their room.
+    pub fn clear(&mut self)
+        ensures { self.new ≡ record { vars = self.old.vars; clauses = [] } }
+    {
+        self.clauses.clear();
     }
 
     /// Adds a clause.
@@ -84,7 +88,7 @@ impl Builder {
         ensures lit { IfOk result (λ l. l ≡ (spec.define_all (lits.now, self.old)).0) }
         ensures form { OnOk result (self.new ≡ (spec.define_all (lits.now, self.old)).1) }
     {
-        let var = self.vars + 1;
+        let var = next_variable(self.vars)?;
         push_all(alloc, &mut self.clauses, var, lits)?;
         self.vars = var;
         Ok(positive(var))
@@ -95,22 +99,28 @@ impl Builder {
         ensures lit { IfOk result (λ l. l ≡ (spec.define_any (lits.now, self.old)).0) }
         ensures form { OnOk result (self.new ≡ (spec.define_any (lits.now, self.old)).1) }
     {
-        let var = self.vars + 1;
+        let var = next_variable(self.vars)?;
         push_any(alloc, &mut self.clauses, var, lits)?;
         self.vars = var;
         Ok(positive(var))
     }
 }
 
+/// The variable behind these many. No memory holds the clauses of more than a `u64` counts.
+fn next_variable(vars: u64) -> Result<u64, AllocError>
+    ensures { IfOk result (λ var. var ≡ vars + 1) }
+{
+    vars.checked_add(1).ok_or(AllocError)
+}
+
+/// Adds what says that the variable is all of the literals.
 fn push_all(
     alloc: Global,
     clauses: &mut Vec<Lits>,
     var: u64,
     lits: &[Lit],
 ) -> Result<(), AllocError>
-    ensures ok { OnOk result (clauses.new.items ≡ clauses.old.items ++ spec.all_clauses var lits.now) }
-    ensures grows { length clauses.old.items ≤ length clauses.new.items }
-    ensures one { OnOk result (length clauses.old.items + 1 ≤ length clauses.new.items) }
+    ensures { OnOk result (clauses.new.items ≡ clauses.old.items ++ spec.all_clauses var lits.now) }
 {
     for lit in lits {
         clauses.push(Lits::from_slice(alloc, &[negative(var), *lit])?)?;
@@ -119,15 +129,14 @@ fn push_all(
     Ok(())
 }
 
+/// Adds what says that the variable is any of the literals.
 fn push_any(
     alloc: Global,
     clauses: &mut Vec<Lits>,
     var: u64,
     lits: &[Lit],
 ) -> Result<(), AllocError>
-    ensures ok { OnOk result (clauses.new.items ≡ clauses.old.items ++ spec.any_clauses var lits.now) }
-    ensures grows { length clauses.old.items ≤ length clauses.new.items }
-    ensures one { OnOk result (length clauses.old.items + 1 ≤ length clauses.new.items) }
+    ensures { OnOk result (clauses.new.items ≡ clauses.old.items ++ spec.any_clauses var lits.now) }
 {
     for lit in lits {
         clauses.push(Lits::from_slice(alloc, &[positive(var), negated(*lit)])?)?;
@@ -136,9 +145,9 @@ fn push_any(
     Ok(())
 }
 
+/// Adds what says that the variable is the literal.
 fn push_same(alloc: Global, clauses: &mut Vec<Lits>, var: u64, lit: Lit) -> Result<(), AllocError>
-    ensures ok { OnOk result (clauses.new.items ≡ clauses.old.items ++ spec.same_clauses var lit) }
-    ensures grows { length clauses.old.items ≤ length clauses.new.items }
+    ensures { OnOk result (clauses.new.items ≡ clauses.old.items ++ spec.same_clauses var lit) }
 {
     clauses.push(Lits::from_slice(alloc, &[negative(var), lit])?)?;
     clauses.push(Lits::from_slice(alloc, &[positive(var), negated(lit)])?)?;

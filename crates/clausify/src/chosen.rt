@@ -24,6 +24,7 @@ pub fn chosen<'a>(
     Ok(found)
 }
 
+/// Adds the fact of the node, if it has one.
 fn add_fact<'a>(
     found: &mut Vec<&'a Fact>,
     facts: &'a Facts,
@@ -42,9 +43,21 @@ fn add_fact<'a>(
     }
 }
 
+/// The fact at the place.
 fn fact_at(facts: &[Fact], place: usize) -> &Fact
     requires { place < length facts.now }
     ensures { (d : declared.Fact) → slice_index_or facts.now place d ≡ result.now }
 {
     &facts[place]
+}
+
+/// The nodes of the facts, in one list, so that the facts need not be read to look through them.
+pub fn nodes_of(alloc: Global, facts: &[&Fact]) -> Result<Vec<Node>, AllocError>
+    ensures { IfOk result (λ v. v.items ≡ map (λ f. f.now.node) facts.now) }
+{
+    let mut nodes = Vec::with_capacity(alloc, facts.len())?;
+    for fact in facts {
+        nodes.push(fact.node)?;
+    }
+    Ok(nodes)
 }

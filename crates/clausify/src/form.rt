@@ -6,17 +6,22 @@ ghost use Rattle.model_slice.specs.Found.{Finds};
 ghost use Rattle.clausify.specs.ClauseForm.{var_of, hold_each, defined_each};
 ghost use Rattle.clausify.specs.Meaning.{StandsFor};
 ghost use Rattle.clausify.specs.Order as order;
+ghost use Rattle.clausify.specs.Form as spec;
+ghost use Rattle.clausify.specs.Draft.{IsDraft};
 ghost use Rattle.clausify.specs.Tidy.{AreTidy};
 
 use crate::builder::Builder;
-use crate::chosen::chosen;
+use crate::chosen::{chosen, nodes_of};
+use crate::draft::Draft;
 use crate::hold::{define_each, hold_each};
 use crate::stage::Stage;
-use crate::tidy::tidy_each;
 use crate::variables::Variables;
 use model_slice::{Places, Slice};
 use std::alloc::{AllocError, Global};
-use ut_logic::{Cnf, Fact, Facts, Formula};
+use ut_logic::{Cnf, Fact, Facts, Formula, Node};
+
+/// For how many clauses there is room at first, for each item. More take more room as they come.
+const CLAUSES_PER_ITEM: usize = 8;
 
 /// The clause form of the facts of the slice's nodes, in the order of these nodes, and of the wish. The only
 /// error is want of memory.
@@ -62,47 +67,101 @@ pub fn clauses_with(
 {
     let chosen = chosen(alloc, facts, places, slice.nodes.as_slice())?;
     let vars = Variables::of(alloc, &chosen, wish)?;
-    let written = written(alloc, &vars, &chosen, wish)?;
-    let clauses = tidy_each(alloc, written.clauses())?;
+    let draft = drafted(alloc, &vars, &chosen, wish)?;
     let items = Vec::from_slice(alloc, vars.items())?;
-    Ok(Cnf::new(written.vars(), items, clauses))
+    Ok(Cnf::new(draft.written.vars(), items, draft.clauses))
 }
 
-/// The clauses of the facts and the wish, as they are written.
-fn written(
+/// The clauses of the facts and the wish, all in order.
+fn drafted(
     alloc: Global,
     vars: &Variables,
     facts: &[&Fact],
     wish: &[Formula],
-) -> Result<Builder, AllocError>
-    ensures { IfOk result (λ b. b ≡ order.form_over vars.now (map (λ f. f.now) facts.now) wish.now) }
+) -> Result<Draft, AllocError>
+    ensures vars { IfOk result (λ d. d.written.vars ≡ (order.form_over vars.now (map (λ f. f.now) facts.now) wish.now).vars) }
+    ensures clauses { IfOk result (λ d. AreTidy (order.form_over vars.now (map (λ f. f.now) facts.now) wish.now).clauses d.clauses.items) }
 {
-    let mut b = Builder::new(alloc, vars.items().len() as u64);
-    add_stage(alloc, vars, Stage::Symbols, facts, &mut b)?;
-    add_stage(alloc, vars, Stage::Starts, facts, &mut b)?;
-    add_stage(alloc, vars, Stage::Blocks, facts, &mut b)?;
-    add_stage(alloc, vars, Stage::States, facts, &mut b)?;
-    hold_each(alloc, vars, wish, &mut b)?;
-    Ok(b)
+    let nodes = nodes_of(alloc, facts)?;
+    let count = vars.items().len();
+    let mut draft = Draft::new(alloc, count as u64, count.saturating_mul(CLAUSES_PER_ITEM))?;
+    add_stage(alloc, vars, Stage::Symbols, &nodes, facts, &mut draft)?;
+    add_stage(alloc, vars, Stage::Starts, &nodes, facts, &mut draft)?;
+    add_stage(alloc, vars, Stage::Blocks, &nodes, facts, &mut draft)?;
+    add_stage(alloc, vars, Stage::States, &nodes, facts, &mut draft)?;
+    add_wish(alloc, vars, wish, &mut draft)?;
+    Ok(draft)
 }
 
-/// Adds the clauses of a stage.
+/// Adds the clauses of the wish.
+fn add_wish(
+    alloc: Global,
+    vars: &Variables,
+    wish: &[Formula],
+    draft: &mut Draft,
+) -> Result<(), AllocError>
+    ensures draft { OnOk result ((s : spec.Form) → IsDraft s draft.old.written draft.old.clauses.items → IsDraft (hold_each (var_of vars.now) wish.now s) draft.new.written draft.new.clauses.items) }
+    ensures settled { OnOk result (draft.new.written.clauses ≡ []) }
+{
+    hold_each(alloc, vars, wish, &mut draft.written)?;
+    draft.settle(alloc)?;
+    Ok(())
+}
+
+/// Adds the clauses of a stage: it reads the facts that come in it, and no others.
 fn add_stage(
     alloc: Global,
     vars: &Variables,
     stage: Stage,
+    nodes: &[Node],
     facts: &[&Fact],
-    b: &mut Builder,
+    draft: &mut Draft,
 ) -> Result<(), AllocError>
-    ensures { OnOk result (b.new ≡ order.staged (var_of vars.now) stage (map (λ f. f.now) facts.now) b.old) }
+    requires { nodes.now ≡ map (λ f. f.now.node) facts.now }
+    ensures { OnOk result ((s : spec.Form) → IsDraft s draft.old.written draft.old.clauses.items → IsDraft (order.staged (var_of vars.now) stage (map (λ f. f.now) facts.now) s) draft.new.written draft.new.clauses.items) }
 {
-    for fact in facts {
-        add_held(alloc, vars, stage, fact, b)?;
-        add_defined(alloc, vars, stage, fact, b)?;
+    for place in 0..facts.len() {
+        add_fact(alloc, vars, stage, nodes[place], facts[place], draft)?;
     }
     Ok(())
 }
 
+/// Adds the clauses of the node's fact in a stage, if there are any.
+fn add_fact(
+    alloc: Global,
+    vars: &Variables,
+    stage: Stage,
+    node: Node,
+    fact: &Fact,
+    draft: &mut Draft,
+) -> Result<(), AllocError>
+    requires { node ≡ fact.now.node }
+    ensures { OnOk result ((s : spec.Form) → IsDraft s draft.old.written draft.old.clauses.items → IsDraft (defined_each (var_of vars.now) (order.defined_in stage fact.now) (hold_each (var_of vars.now) (order.held_in stage fact.now) s)) draft.new.written draft.new.clauses.items) }
+{
+    if stage.takes(node) {
+        add_taken(alloc, vars, stage, fact, draft)
+    } else {
+        Ok(())
+    }
+}
+
+/// Adds the clauses of a fact in a stage.
+fn add_taken(
+    alloc: Global,
+    vars: &Variables,
+    stage: Stage,
+    fact: &Fact,
+    draft: &mut Draft,
+) -> Result<(), AllocError>
+    ensures { OnOk result ((s : spec.Form) → IsDraft s draft.old.written draft.old.clauses.items → IsDraft (defined_each (var_of vars.now) (order.defined_in stage fact.now) (hold_each (var_of vars.now) (order.held_in stage fact.now) s)) draft.new.written draft.new.clauses.items) }
+{
+    add_held(alloc, vars, stage, fact, &mut draft.written)?;
+    add_defined(alloc, vars, stage, fact, &mut draft.written)?;
+    draft.settle(alloc)?;
+    Ok(())
+}
+
+/// Adds the clauses of what a fact holds in a stage.
 fn add_held(
     alloc: Global,
     vars: &Variables,
@@ -119,6 +178,7 @@ fn add_held(
     }
 }
 
+/// Adds the clauses of what a fact defines in a stage.
 fn add_defined(
     alloc: Global,
     vars: &Variables,

@@ -11,6 +11,7 @@
 
 mod builder;
 mod chosen;
+mod draft;
 mod form;
 mod hold;
 mod listed;

@@ -32,18 +32,21 @@ pub fn are_listed(
     Ok(all_known(&known, &mentioned, &wished))
 }
 
+/// Whether all that is mentioned is known, and all that is wished is known or an outer condition.
 fn all_known(known: &IndexSet<Item>, mentioned: &[Item], wished: &[Item]) -> bool
     ensures { result ≡ (list_all (λ i. is_in known.now.keys i) mentioned.now && list_all (λ i. is_in known.now.keys i || order.is_outer i) wished.now) }
 {
     each_known(known, mentioned) && each_known_or_outer(known, wished)
 }
 
+/// Whether the item is known.
 fn has(known: &IndexSet<Item>, item: Item) -> bool
     ensures { result ≡ is_in known.now.keys item }
 {
     known.contains(&item)
 }
 
+/// Whether each of the items is known.
 fn each_known(known: &IndexSet<Item>, items: &[Item]) -> bool
     ensures { result ≡ list_all (λ i. is_in known.now.keys i) items.now }
 {
@@ -55,6 +58,7 @@ fn each_known(known: &IndexSet<Item>, items: &[Item]) -> bool
     true
 }
 
+/// Whether each of the items is known or an outer condition.
 fn each_known_or_outer(known: &IndexSet<Item>, items: &[Item]) -> bool
     ensures { result ≡ list_all (λ i. is_in known.now.keys i || order.is_outer i) items.now }
 {
@@ -76,6 +80,7 @@ fn mention_facts(facts: &[&Fact], items: &mut Vec<Item>) -> Result<(), AllocErro
     Ok(())
 }
 
+/// Adds the items that the fact mentions.
 fn mention_fact(fact: &Fact, items: &mut Vec<Item>) -> Result<(), AllocError>
     ensures { OnOk result (items.new.items ≡ items.old.items ++ order.mentioned_of fact.now) }
 {
@@ -83,6 +88,7 @@ fn mention_fact(fact: &Fact, items: &mut Vec<Item>) -> Result<(), AllocError>
     mention_definitions(fact.defines.as_slice(), items)
 }
 
+/// Adds the items that the definitions define and mention.
 fn mention_definitions(list: &[Definition], items: &mut Vec<Item>) -> Result<(), AllocError>
     ensures { OnOk result (items.new.items ≡ items.old.items ++ together (map (λ d. d.item ∷ mentioned d.formula) list.now)) }
 {

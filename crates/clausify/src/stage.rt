@@ -1,4 +1,4 @@
-ghost use Rattle.std.specs.Prelude.{◌≡◌};
+ghost use Rattle.std.specs.Prelude.{◌≡◌, ◌||◌};
 ghost use Rattle.clausify.specs.Order.{holds_in, defines_in};
 
 use ut_logic::Node;
@@ -43,5 +43,12 @@ impl Stage {
             Node::Block { .. } => matches!(self, Stage::Blocks),
             Node::State { .. } => matches!(self, Stage::States),
         }
+    }
+
+    /// Whether what the node holds or what it defines comes in this stage.
+    pub fn takes(self, node: Node) -> bool
+        ensures { result ≡ (holds_in self node || defines_in self node) }
+    {
+        self.holds(node) || self.defines(node)
     }
 }

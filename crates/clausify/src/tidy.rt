@@ -1,22 +1,27 @@
-ghost use Rattle.std.specs.Prelude.{◌≡◌, Bool, true, false, IfOk, OnOk, MatchOption};
+ghost use Rattle.std.specs.Prelude.{◌≡◌, ◌++◌, List, Bool, true, false, IfOk, OnOk, MatchOption};
+ghost use Rattle.ut_logic.specs.declared.literals.Lit as declared;
 ghost use Rattle.clausify.specs.Tidy.{AddsTidy, AreTidy, IsTidy, has_both_signs};
 
 use crate::lits::Lits;
 use std::alloc::{AllocError, Global};
 use ut_logic::{Clause, Lit, are_ordered};
 
-/// The clauses that do not have both signs of a variable, each in order.
-pub fn tidy_each(alloc: Global, written: &[Lits]) -> Result<Vec<Clause>, AllocError>
-    ensures { IfOk result (λ cs. AreTidy written.now cs.items) }
+/// Adds the clauses that do not have both signs of a variable, each in order.
+pub fn tidy_each(
+    alloc: Global,
+    clauses: &mut Vec<Clause>,
+    sorted: &mut Vec<Lit>,
+    written: &[Lits],
+) -> Result<(), AllocError>
+    ensures { OnOk result ((front : List (List declared.Lit)) → AreTidy front clauses.old.items → AreTidy (front ++ written.now) clauses.new.items) }
 {
-    let mut clauses = Vec::with_capacity(alloc, written.len())?;
-    let mut sorted = Vec::new(alloc);
     for lits in written {
-        add_tidy(alloc, &mut clauses, &mut sorted, lits.as_slice())?;
+        add_tidy(alloc, clauses, sorted, lits.as_slice())?;
     }
-    Ok(clauses)
+    Ok(())
 }
 
+/// Adds the clause of the literals, unless it has both signs of a variable.
 fn add_tidy(
     alloc: Global,
     clauses: &mut Vec<Clause>,

@@ -5,6 +5,7 @@ ghost use Rattle.ut_logic.specs.Truth.{mentioned, together};
 ghost use Rattle.ut_logic.specs.Variables.{AreDistinct};
 ghost use Rattle.ut_logic.specs.declared.item.Item as declared;
 ghost use Rattle.clausify.specs.ClauseForm.{var_of};
+ghost use Rattle.clausify.specs.Numbered.{AreVariables};
 ghost use Rattle.clausify.specs.Order as order;
 
 use indexmap::IndexSet;
@@ -16,6 +17,8 @@ use ut_logic::{Fact, Formula, Item};
 #[derive(Drop)]
 pub struct Variables {
     set: IndexSet<Item>,
+    /// The variables of the symbols of the first numbers, without a search; 0 where there is none.
+    symbols: Vec<u64>,
 }
 
 impl Model for Variables {
@@ -25,6 +28,10 @@ impl Model for Variables {
     ghost Value = { List Item };
 
     ghost view = { λ v. v.set.keys };
+
+    ghost use Rattle.clausify.specs.Numbered.{AreVariables};
+
+    ghost invariant = { λ v. AreVariables v.set.keys v.symbols.items };
 }
 
 impl Variables {
@@ -36,22 +43,21 @@ impl Variables {
         let mut items = listed(alloc, facts)?;
         let outers = outers(alloc, wish)?;
         items.extend_from_slice(&outers)?;
-        Ok(Variables {
-            set: in_order(alloc, &items)?,
-        })
+        let set = in_order(alloc, &items)?;
+        let symbols = symbols(alloc, set.as_slice(), facts.len())?;
+        Ok(Variables { set, symbols })
     }
 
     /// The variable of an item, or 0 where it has none.
     pub fn var(&self, item: Item) -> u64
         ensures { result ≡ var_of self.now item }
     {
-        let count = self.set.len();
-        match self.set.get_index_of(&item) {
-            Some(place) => {
-                prove!(place < count);
-                place as u64 + 1
-            }
-            None => 0,
+        match item {
+            Item::SymY(sym) => match self.symbols.get(sym as usize) {
+                Some(var) if *var != 0 => *var,
+                _ => searched(&self.set, item),
+            },
+            _ => searched(&self.set, item),
         }
     }
 
@@ -61,6 +67,47 @@ impl Variables {
         ensures distinct { AreDistinct self.now }
     {
         self.set.as_slice()
+    }
+}
+
+/// The variable of an item, by a search.
+fn searched(set: &IndexSet<Item>, item: Item) -> u64
+    ensures { result ≡ var_of set.now.keys item }
+{
+    let count = set.len();
+    match set.get_index_of(&item) {
+        Some(place) => {
+            prove!(place < count);
+            place as u64 + 1
+        }
+        None => 0,
+    }
+}
+
+/// The variables of the symbols of these items whose numbers are below a bound.
+fn symbols(alloc: Global, items: &[Item], below: usize) -> Result<Vec<u64>, AllocError>
+    requires { AreDistinct items.now }
+    ensures { IfOk result (λ vars. AreVariables items.now vars.items) }
+{
+    let mut vars = Vec::new(alloc);
+    vars.resize(below, 0)?;
+    for place in 0..items.len() {
+        number(&mut vars, items, place);
+    }
+    Ok(vars)
+}
+
+/// Notes the variable of the item at the place, if it is a symbol with a number below the bound.
+fn number(vars: &mut Vec<u64>, items: &[Item], place: usize)
+    requires distinct { AreDistinct items.now }
+    requires place { place < length items.now }
+    requires vars { AreVariables items.now vars.old.items }
+    ensures { AreVariables items.now vars.new.items }
+{
+    if let Item::SymY(sym) = items[place] {
+        if (sym as usize) < vars.len() {
+            vars[sym as usize] = place as u64 + 1;
+        }
     }
 }
 
@@ -81,6 +128,7 @@ fn outers(alloc: Global, wish: &[Formula]) -> Result<Vec<Item>, AllocError>
     Ok(items)
 }
 
+/// Keeps the outer conditions alone.
 fn keep_outers(items: &mut Vec<Item>)
     ensures { items.new.items ≡ filter order.is_outer items.old.items }
 {
@@ -116,6 +164,7 @@ pub fn mention(f: &Formula, items: &mut Vec<Item>) -> Result<(), AllocError>
     }
 }
 
+/// Adds the items that the formulas mention.
 #[cycle(mention)]
 pub fn mention_each(list: &[Formula], items: &mut Vec<Item>) -> Result<(), AllocError>
     ensures { OnOk result (items.new.items ≡ items.old.items ++ together (map mentioned list.now)) }

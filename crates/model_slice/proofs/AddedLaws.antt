@@ -1,8 +1,8 @@
 -- What the nodes are after more are added.
-use Rattle.std.proofs.Common.{◌≡◌, ℕ, ◌≤◌, Bool, true, false, ◌||◌, cond, List, [], ◌∷◌, ◌++◌, length, take, refl, sym, ◌∙◌, arith}
+use Rattle.std.proofs.Common.{◌≡◌, ℕ, ◌≤◌, Bool, true, false, ◌||◌, cond, List, [], ◌∷◌, ◌++◌, length, take, refl, sym, ap, ◌∙◌, arith}
 use Rattle.std.proofs.lemmas.Grind.{common_steps}
 use Rattle.std.proofs.Common.{length-append}
-use Rattle.std.proofs.lemmas.List.{take-append-le}
+use Rattle.std.proofs.lemmas.List.{take-append-le, append-nil, append_assoc}
 use Rattle.std.proofs.lemmas.List.Folds.{list_any-append}
 use Rattle.std.proofs.lemmas.Map.Keys.{IsDistinct-push}
 use Rattle.std.specs.List.{IsDistinct}
@@ -61,3 +61,21 @@ length_le-added ns (m ∷ more) = omega (arith, length_le-added (with_one ns m) 
 pub take-added : (ns more : List Node) (k : ℕ) → k ≤ length ns → take k (added ns more) ≡ take k ns
 take-added ns [] k h = refl
 take-added ns (m ∷ more) k h = let one = front_one ns m k h in take-added (with_one ns m) more k (omega arith) ∙ one.0
+
+-- more in two parts
+pub added-append : (ns a b : List Node) → added ns (a ++ b) ≡ added (added ns a) b
+added-append ns [] b = refl
+added-append ns (m ∷ a) b = added-append (with_one ns m) a b
+
+one_grows : (ns : List Node) (n : Node) → (extra : List Node) × (with_one ns n ≡ ns ++ extra)
+one_grows ns n = by (has ns n)
+  where
+    by : (b : Bool) → (extra : List Node) × (cond b ns (ns ++ n ∷ []) ≡ ns ++ extra)
+    by true = ([], sym (append-nil ns))
+    by false = (n ∷ [], refl)
+
+-- what is new stands behind what was there
+pub added_grows : (ns more : List Node) → (extra : List Node) × (added ns more ≡ ns ++ extra)
+added_grows ns [] = ([], sym (append-nil ns))
+added_grows ns (m ∷ more) = let one = one_grows ns m in let rest = added_grows (with_one ns m) more in
+    (one.0 ++ rest.0, rest.1 ∙ (ap (λ (l : List Node). l ++ rest.0) one.1 ∙ append_assoc ns one.0 rest.0))

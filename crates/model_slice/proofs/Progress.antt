@@ -1,13 +1,14 @@
 -- The search for what is reached: what it keeps, and what it has in the end.
-use Rattle.std.proofs.Common.{◌≡◌, ℕ, ◌+◌, ◌-◌, ◌≤◌, ◌<◌, Bool, true, false, ◌||◌, List, [], ◌∷◌, length, take, get_or, refl, sym, ap, subst, ◌∙◌, ◌⊎◌, inl, inr, ⊎_elim, rules, arith, cond}
+use Rattle.std.proofs.Common.{◌≡◌, ℕ, ◌+◌, ◌-◌, ◌≤◌, ◌<◌, Bool, true, false, ◌||◌, List, [], ◌∷◌, ◌++◌, length, take, drop, get_or, refl, sym, ap, subst, ◌∙◌, ◌⊎◌, inl, inr, ⊎_elim, rules, arith, cond}
 use Rattle.std.proofs.lemmas.Grind.{common_steps}
-use Rattle.std.proofs.lemmas.List.{take_more, take_all, length-map}
+use Rattle.std.proofs.lemmas.List.{take_more, take_all, length-map, append-nil, append_assoc, take-append-drop, length-append, length-take-le}
+use Rattle.std.proofs.Math.Seq.{get_or-append_seam}
 use Rattle.std.proofs.lemmas.List.Folds.{list_any-append, list_any-from_Any}
 use Rattle.std.proofs.lemmas.Map.Made.{length-le_from_is_member}
 use Rattle.std.proofs.lemmas.List.Sorted.{list_any-IsPermutation}
 use Rattle.std.proofs.lemmas.List.Filters.{dedup_is}
 use Rattle.std.proofs.lemmas.List.Kept.{IsStrictlySortedBy-dedup}
-use Rattle.std.specs.List.{IsDistinct, dedup, dedup_from}
+use Rattle.std.specs.List.{IsDistinct, dedup, dedup_from, flat_map}
 use Rattle.std.specs.List.Retain.{IsFiltered, DiffersFromLast}
 use Rattle.std.specs.List.Sorted.{IsPermutation, IsSorted, IsStrictlySortedBy}
 use Rattle.ut_logic.specs.declared.node.Node.{Node}
@@ -15,7 +16,7 @@ use Rattle.ut_logic.specs.declared.facts.Fact.{Fact}
 use Rattle.ut_logic.specs.Node.{node_eq, node_cmp, node_total}
 use Rattle.model_slice.specs.Closed.{has, names_of, nodes_of, HasAll, IsClosed, IsLeastClosed, AreKnown}
 use Rattle.model_slice.specs.Found.{added}
-use Rattle.model_slice.proofs.AddedLaws.{laws, has-added, distinct_added, length_le-added, take-added}
+use Rattle.model_slice.proofs.AddedLaws.{laws, has-added, distinct_added, length_le-added, take-added, added-append, added_grows}
 
 -- those before `at` have all that they name
 pub record Progress (facts : List Fact) (from found : List Node) (at : ℕ) : Type 0 where
@@ -52,7 +53,7 @@ start facts from k = record {
   known = λ n h. k.rooted n (sym (has-added [] from n) ∙ h);
 }
 
-pub smaller : (facts : List Fact) (from found : List Node) (at : ℕ) → Progress facts from found at → at < length found → length facts - (at + 1) < length facts - at
+pub smaller : (facts : List Fact) (from found : List Node) (at : ℕ) → Progress facts from found at → at < length found → length facts - length found < length facts - at
 smaller facts from found at p h = omega (arith, length-le_from_is_member laws found (nodes_of facts) p.distinct p.known, length-map (facts) (λ (f : Fact). f.node))
 
 has_at : (xs : List Node) (k : ℕ) (n : Node) → k < length xs → get_or xs k n ≡ n → has xs n ≡ true
@@ -89,6 +90,37 @@ module _ (facts : List Fact) (from found : List Node) (at : ℕ) (k : AreKnown f
     least = λ q r c x g. ⊎_elim (p.least q r c x) (c n x (p.least q r c n (has_at found at n h (e n)))) (in_next x g);
     known = λ x g. ⊎_elim (p.known x) (k.named n x) (in_next x g);
   }
+
+-- the same of several that follow one another
+steps : (facts : List Fact) (from : List Node) → AreKnown facts from → (ns front rest found : List Node) → found ≡ front ++ (ns ++ rest)
+    → Progress facts from found (length front) → Progress facts from (added found (flat_map (names_of facts) ns)) (length front + length ns)
+steps facts from k [] front rest found e p = subst (Progress facts from found) (omega arith) p
+steps facts from k (n ∷ ns) front rest found e p =
+    let more = names_of facts n in
+    let next = added found more in
+    let grown = added_grows found more in
+    let one = step facts from found (length front) k p (omega (arith, ap length e, length-append front (n ∷ (ns ++ rest)))) n
+    (λ d. ap (λ (l : List Node). get_or l (length front) d) e ∙ get_or-append_seam front n (ns ++ rest) d) in
+    let before = front ++ n ∷ [] in
+    let behind = rest ++ grown.0 in
+    let same : next ≡ before ++ (ns ++ behind) = grown.1 ∙ (ap (λ (l : List Node). l ++ grown.0) e ∙ (append_assoc front (n ∷ (ns ++ rest)) grown.0
+    ∙ (ap (λ (l : List Node). front ++ n ∷ l) (append_assoc ns rest grown.0) ∙ sym (append_assoc front (n ∷ []) (ns ++ behind))))) in
+    let all = steps facts from k ns before behind next same (subst (Progress facts from next) (omega (arith, length-append front (n ∷ []))) one) in
+    subst (λ (l : List Node). Progress facts from l (length front + length (n ∷ ns))) (sym (added-append found more (flat_map (names_of facts) ns)))
+    (subst (Progress facts from (added next (flat_map (names_of facts) ns))) (omega (arith, length-append front (n ∷ []))) all)
+
+-- and of all that are found so far
+pub level : (facts : List Fact) (from found : List Node) (at : ℕ) → AreKnown facts from → Progress facts from found at
+    → Progress facts from (added found (flat_map (names_of facts) (drop at found))) (length found)
+level facts from found at k p =
+    let front = take at found in
+    let behind = drop at found in
+    let whole : front ++ behind ≡ found = take-append-drop at found in
+    let long : at ≡ length front = sym (length-take-le at found p.in_range) in
+    let same : found ≡ front ++ (behind ++ []) = sym (ap (λ (l : List Node). front ++ l) (append-nil behind) ∙ whole) in
+    let count : length front + length behind ≡ length found = omega (arith, ap (λ (l : List Node). length l) whole, length-append front behind) in
+    subst (Progress facts from (added found (flat_map (names_of facts) behind))) count
+    (steps facts from k behind front [] found same (subst (Progress facts from found) long p))
 
 -- ---- in order
 

@@ -16,6 +16,7 @@ pub fn are_known(alloc: Global, facts: &Facts, roots: &[Node]) -> Result<bool, A
     Ok(all_have_facts(&places, facts, roots))
 }
 
+/// Whether each root, and each node that a fact names, has a fact.
 fn all_have_facts(places: &Places, facts: &Facts, roots: &[Node]) -> bool
     requires { Finds facts.now.list places.now }
     ensures { result ≡ (list_all (has_fact facts.now.list) roots.now && list_all (λ f. list_all (has_fact facts.now.list) (names_of facts.now.list f.node)) facts.now.list) }
@@ -23,6 +24,7 @@ fn all_have_facts(places: &Places, facts: &Facts, roots: &[Node]) -> bool
     have_facts(places, facts, roots) && name_facts(places, facts)
 }
 
+/// Whether each of the nodes has a fact.
 fn have_facts(places: &Places, facts: &Facts, nodes: &[Node]) -> bool
     requires { Finds facts.now.list places.now }
     ensures { result ≡ list_all (has_fact facts.now.list) nodes.now }
@@ -35,6 +37,7 @@ fn have_facts(places: &Places, facts: &Facts, nodes: &[Node]) -> bool
     true
 }
 
+/// Whether each node that a fact names has a fact.
 fn name_facts(places: &Places, facts: &Facts) -> bool
     requires { Finds facts.now.list places.now }
     ensures { result ≡ list_all (λ f. list_all (has_fact facts.now.list) (names_of facts.now.list f.node)) facts.now.list }

@@ -12,6 +12,7 @@ mod known;
 mod nodes;
 mod places;
 mod reach;
+mod seen;
 mod shared;
 #[cfg(test)]
 mod tests;

@@ -47,6 +47,7 @@ impl Places {
     }
 }
 
+/// The nodes that the fact at the place names.
 fn names_at(facts: &[Fact], place: usize) -> &[Node]
     requires { place < length facts.now }
     ensures { (d : declared_fact.Fact) → (slice_index_or facts.now place d).names ≡ result.now }
@@ -54,6 +55,7 @@ fn names_at(facts: &[Fact], place: usize) -> &[Node]
     facts[place].names.as_slice()
 }
 
+/// The place of each node that has a fact.
 fn index(alloc: Global, facts: &[Fact]) -> Result<IndexMap<Node, usize>, AllocError>
     ensures { IfOk result (λ map. (n : declared.Node) → get node_eq map n ≡ place_from 0 facts.now n) }
 {

@@ -1,12 +1,13 @@
-ghost use Rattle.std.specs.Prelude.{◌≡◌, ◌<◌, length, slice_index_or, IfOk, OnOk};
+ghost use Rattle.std.specs.Prelude.{◌≡◌, map, IfOk};
+ghost use Rattle.std.specs.List.{flat_map};
 ghost use Rattle.std.specs.List.Sorted.{IsStrictlySortedBy};
 ghost use Rattle.ut_logic.specs.Node.{node_cmp};
-ghost use Rattle.ut_logic.specs.declared.node.Node as declared;
-ghost use Rattle.model_slice.specs.Closed.{IsLeastClosed, AreKnown};
-ghost use Rattle.model_slice.specs.Found.{Finds, added};
+ghost use Rattle.model_slice.specs.Closed.{IsLeastClosed, AreKnown, names_of};
+ghost use Rattle.model_slice.specs.Found.{Finds};
 
 use crate::nodes::Slice;
 use crate::places::Places;
+use crate::seen::{add, unseen};
 use indexmap::IndexSet;
 use std::alloc::{AllocError, Global};
 use ut_logic::{Facts, Node, Sequence};
@@ -24,7 +25,8 @@ pub fn slice(alloc: Global, facts: &Facts, roots: &[Node]) -> Result<Slice, Allo
     slice_with(alloc, facts, &places, roots)
 }
 
-/// `slice` over facts whose places are known: it goes over what it finds and over nothing else.
+/// `slice` over facts whose places are known: it reads the facts of the nodes that it finds and no others,
+/// and has a mark of one byte for each fact.
 pub fn slice_with(
     alloc: Global,
     facts: &Facts,
@@ -45,7 +47,8 @@ pub fn slice_with(
     })
 }
 
-/// The nodes that are reached, each once, in the order in which they are met.
+/// The nodes that are reached, each once, in the order in which they are met: the roots, then the nodes
+/// that these name, then those that these name, and so on.
 fn reached(
     alloc: Global,
     facts: &Facts,
@@ -57,29 +60,57 @@ fn reached(
     ensures { IfOk result (λ found. IsLeastClosed facts.now.list roots.now found.keys) }
 {
     let mut found = IndexSet::new(alloc);
-    add(&mut found, roots)?;
+    let mut seen = unseen(alloc, facts.list.len())?;
+    add(&mut found, &mut seen, roots)?;
     let mut at = 0;
     while at < found.len() {
-        let node = node_at(found.as_slice(), at);
-        add(&mut found, places.names(facts, node))?;
-        at += 1;
+        let met = found.len();
+        let named = named(alloc, facts, places, &found.as_slice()[at..])?;
+        add(&mut found, &mut seen, &named)?;
+        at = met;
     }
     Ok(found)
 }
 
-fn node_at(found: &[Node], at: usize) -> Node
-    requires { at < length found.now }
-    ensures { (d : declared.Node) → slice_index_or found.now at d ≡ result }
+/// The nodes that the facts of these nodes name, in turn. Where these stand is looked up for all of them
+/// before the first is read, so that no look-up waits for what another one finds.
+fn named(
+    alloc: Global,
+    facts: &Facts,
+    places: &Places,
+    nodes: &[Node],
+) -> Result<Vec<Node>, AllocError>
+    requires { Finds facts.now.list places.now }
+    ensures { IfOk result (λ v. v.items ≡ flat_map (names_of facts.now.list) nodes.now) }
 {
-    found[at]
+    let each = names_each(alloc, facts, places, nodes)?;
+    joined(alloc, &each)
 }
 
-/// Adds those that are new, at the end.
-fn add(found: &mut IndexSet<Node>, more: &[Node]) -> Result<(), AllocError>
-    ensures { OnOk result (found.new.keys ≡ added found.old.keys more.now) }
+/// What the fact of each of the nodes names.
+fn names_each<'a>(
+    alloc: Global,
+    facts: &'a Facts,
+    places: &Places,
+    nodes: &[Node],
+) -> Result<Vec<&'a [Node]>, AllocError>
+    requires { Finds facts.now.list places.now }
+    ensures { IfOk result (λ v. map (λ s. s.now) v.items ≡ map (names_of facts.now.list) nodes.now) }
 {
-    for node in more {
-        found.insert(*node)?;
+    let mut each = Vec::with_capacity(alloc, nodes.len())?;
+    for node in nodes {
+        each.push(places.names(facts, *node))?;
     }
-    Ok(())
+    Ok(each)
+}
+
+/// The nodes of all of the lists, in turn.
+fn joined(alloc: Global, each: &[&[Node]]) -> Result<Vec<Node>, AllocError>
+    ensures { IfOk result (λ v. v.items ≡ flat_map (λ s. s.now) each.now) }
+{
+    let mut all = Vec::new(alloc);
+    for nodes in each {
+        all.extend_from_slice(nodes)?;
+    }
+    Ok(all)
 }

@@ -1,8 +1,11 @@
--- What the rest gives after what is done.
-use Rattle.std.proofs.Common.{◌≡◌, drop, map}
+-- What the facts so far add to a form is a draft of it.
+use Rattle.std.proofs.Common.{take, map}
+use Rattle.clausify.specs.Form.{Form}
 use Rattle.clausify.specs.ClauseForm.{var_of}
 use Rattle.clausify.specs.Order.{staged}
+use Rattle.clausify.specs.Draft.{IsDraft}
 use Rattle.clausify.proofs.form.add_stage.Given as goal
 
-abbrev pub invariant-loop-fact : goal.invariant-loop-fact
-invariant-loop-fact l = staged (var_of l.vars) l.fn.stage (map (λ f. f.now) (drop l.fact-index l.facts)) l.b ≡ staged (var_of l.vars) l.fn.stage (map (λ f. f.now) l.facts) l.initial.b
+abbrev pub invariant-loop-place : goal.invariant-loop-place
+invariant-loop-place l = (s : Form) → IsDraft s l.initial.draft.written l.initial.draft.clauses.items
+    → IsDraft (staged (var_of l.vars) l.fn.stage (map (λ f. f.now) (take l.place l.facts)) s) l.draft.written l.draft.clauses.items

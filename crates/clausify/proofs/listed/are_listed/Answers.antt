@@ -1,4 +1,4 @@
-use Rattle.std.proofs.Common.{◌≡◌, List, Bor, map, ◌++◌, sym, ap, ◌∙◌}
+use Rattle.std.proofs.Common.{List, Bor, map, ◌++◌, ap, ◌∙◌}
 use Rattle.ut_logic.specs.declared.item.Item.{Item}
 use Rattle.ut_logic.specs.declared.node.Node.{Node}
 use Rattle.ut_logic.specs.declared.facts.Fact.{Fact}

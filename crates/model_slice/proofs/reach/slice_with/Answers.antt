@@ -1,8 +1,6 @@
-use Rattle.std.proofs.Common.{sym, ap, subst, List, ◌∙◌}
+use Rattle.std.proofs.Common.{ap, List, ◌∙◌}
 use Rattle.ut_logic.specs.declared.node.Node.{Node}
-use Rattle.ut_logic.specs.Node.{node_cmp}
-use Rattle.std.specs.List.Sorted.{IsStrictlySortedBy}
-use Rattle.model_slice.specs.Closed.{IsLeastClosed, has}
+use Rattle.model_slice.specs.Closed.{has}
 use Rattle.model_slice.proofs.Progress.{same_members, same_set, strictly}
 use Rattle.model_slice.proofs.reach.slice_with.Goals as goal
 

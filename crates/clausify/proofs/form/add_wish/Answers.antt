@@ -1,0 +1,11 @@
+use Rattle.std.proofs.Common.{sym, subst}
+use Rattle.clausify.specs.Form.{Form}
+use Rattle.clausify.specs.ClauseForm.{var_of, hold_each}
+use Rattle.clausify.specs.Draft.{IsDraft}
+use Rattle.clausify.proofs.Shifts.{draft_held}
+use Rattle.clausify.proofs.form.add_wish.Goals as goal
+
+pub returns-clause-draft : goal.returns-clause-draft
+returns-clause-draft c = λ s d. let at = var_of c.args.vars.now in
+    c.in_ok-settle.ensures.draft (hold_each at c.args.wish.now s)
+    (subst (λ (w : Form). IsDraft (hold_each at c.args.wish.now s) w c.args.draft.now.clauses.items) (sym c.in_ok-hold_each.ensures) (draft_held at c.args.wish.now s _ _ d))

@@ -1,0 +1,46 @@
+ghost use Rattle.std.specs.Prelude.{◌≡◌, [], IfOk, OnOk};
+ghost use Rattle.clausify.specs.Form as spec;
+ghost use Rattle.clausify.specs.Draft.{IsDraft};
+
+use crate::builder::Builder;
+use crate::tidy::tidy_each;
+use std::alloc::{AllocError, Global};
+use ut_logic::{Clause, Lit};
+
+/// A clause form on its way: clauses that are put in order, and behind them those that are as they were
+/// written. So only a few stand as they were written at a time.
+#[derive(Drop)]
+pub struct Draft {
+    pub written: Builder,
+    pub clauses: Vec<Clause>,
+    /// The literals of the clause that is put in order.
+    pub sorted: Vec<Lit>,
+}
+
+impl Draft {
+    /// No clauses over these variables, and room for so many.
+    pub fn new(alloc: Global, vars: u64, room: usize) -> Result<Draft, AllocError>
+        ensures { IfOk result (λ d. IsDraft (record { vars = vars; clauses = [] }) d.written d.clauses.items) }
+    {
+        Ok(Draft {
+            written: Builder::new(alloc, vars),
+            clauses: Vec::with_capacity(alloc, room)?,
+            sorted: Vec::new(alloc),
+        })
+    }
+
+    /// Puts in order what is as it was written.
+    pub fn settle(&mut self, alloc: Global) -> Result<(), AllocError>
+        ensures draft { OnOk result ((s : spec.Form) → IsDraft s self.old.written self.old.clauses.items → IsDraft s self.new.written self.new.clauses.items) }
+        ensures settled { OnOk result (self.new.written.clauses ≡ []) }
+    {
+        tidy_each(
+            alloc,
+            &mut self.clauses,
+            &mut self.sorted,
+            self.written.clauses(),
+        )?;
+        self.written.clear();
+        Ok(())
+    }
+}

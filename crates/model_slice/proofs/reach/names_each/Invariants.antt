@@ -1,0 +1,7 @@
+-- What the facts of the nodes so far name.
+use Rattle.std.proofs.Common.{◌≡◌, take, map}
+use Rattle.model_slice.specs.Closed.{names_of}
+use Rattle.model_slice.proofs.reach.names_each.Given as goal
+
+abbrev pub invariant-loop-node : goal.invariant-loop-node
+invariant-loop-node l = map (λ s. s.now) l.each.items ≡ map (names_of l.facts.list) (take l.node-index l.nodes)
