@@ -1,0 +1,4 @@
+mod WordBytes
+mod TurnLaws
+mod FirstsLaws
+mod NestedLaws

@@ -1,3 +1,11 @@
 pub mod Pieces
 pub mod Blocks
 pub mod Run
+pub mod WellFormed
+pub mod Mentions
+pub mod PieceIdentity
+pub mod Nesting
+pub mod Turns
+pub mod Counted
+pub mod Nested
+pub mod Kept

@@ -6,6 +6,14 @@
 //! false, or defined and true.
 #![tactic(auto)]
 
+mod blocks;
+mod mentions;
+mod nesting;
+mod piece_names;
+mod pieces;
 mod state;
+mod turns;
 
+pub use blocks::Blocks;
+pub use pieces::PieceOf;
 pub use state::MacroState;
