@@ -1,7 +1,11 @@
 -- New members are put behind one list after another.
-use Rattle.std.proofs.Common.{◌≡◌, ℕ, ◌+◌, ◌<◌, Bool, List, [], ◌∷◌, ◌++◌, refl, sym, ap, ◌∙◌, length, drop, take, get_or, map}
-use Rattle.std.specs.List.{flat_map}
-use Rattle.std.proofs.lemmas.List.{at_drop_more, take_more, append-nil}
+use Rattle.std.proofs.Common.{◌≡◌, ℕ, ◌+◌, ◌<◌, ◌≤◌, Bool, true, false, not, cond, Option, None, Some, position, arith, append_assoc, List, [], ◌∷◌, ◌++◌, refl, sym, ap, ◌∙◌, length, drop, take, get_or, map}
+use Rattle.std.specs.Prelude.{nat_lt}
+use Rattle.std.specs.List.{flat_map, position_or_len}
+use Rattle.std.proofs.lemmas.Bool.Decides.{nat_tests}
+use Rattle.std.proofs.lemmas.List.Sums.{prefix_len-le-length}
+use Rattle.std.proofs.lemmas.Option.{none-some}
+use Rattle.std.proofs.lemmas.List.{at_drop_more, take_more, append-nil, map-append}
 use Rattle.std.proofs.lemmas.List.Concat.{flat_map-append}
 use Rattle.cpp_read.specs.declared.directive.Directive.{Directive}
 use Rattle.cpp_blocks.specs.declared.pieces.PieceOf.{PieceOf}
@@ -36,3 +40,25 @@ pub pieces_next : (seen : List PieceOf) (touched : List (List ℕ)) (ds : List D
 pieces_next seen touched ds i d h e = at_drop_more (λ ys. firsts piece_eq seen (pieces_from touched ys)) ds i d h
     ∙ (firsts-append piece_eq seen (pieces_at (touches touched) (get_or ds i d).what) (pieces_from (touched ++ touched_at (get_or ds i d).what) (drop (i + 1) ds))
     ∙ ap (λ (x : Directive). firsts piece_eq (firsts piece_eq seen (pieces_at (touches touched) x.what)) (pieces_from (touched ++ touched_at x.what) (drop (i + 1) ds))) (sym e))
+
+-- ---- look-ups and lists of states
+
+not_below : (m n : ℕ) → m ≤ n → nat_lt m n ≡ false → n ≡ m
+not_below m n h e = grind (arith, nat_tests)
+
+-- a place that no member has is the length
+pub absent : {A : Type 0} (p : A → Bool) (xs : List A) → None ≡ position p xs → length xs ≡ position_or_len p xs
+absent p xs h = by (nat_lt (position_or_len p xs) (length xs)) refl h
+  where
+    le : position_or_len p xs ≤ length xs
+    le = prefix_len-le-length (λ x. not (p x)) xs
+
+    by : (b : Bool) → nat_lt (position_or_len p xs) (length xs) ≡ b → None ≡ cond b (Some (position_or_len p xs)) None → length xs ≡ position_or_len p xs
+    by true e h = absurd (none-some (position_or_len p xs) h)
+    by false e h = not_below (position_or_len p xs) (length xs) le e
+
+-- what the next of several gives, mapped, and then what is left gives
+pub mapped_next : {A B C : Type 0} (f : A → List B) (g : B → C) (old : List C) (xs : List A) (i : ℕ) (d : A) → i < length xs
+    → old ++ map g (flat_map (λ y. y) (map f (drop i xs))) ≡ (old ++ map g (f (get_or xs i d))) ++ map g (flat_map (λ y. y) (map f (drop (i + 1) xs)))
+mapped_next f g old xs i d h = at_drop_more (λ ys. old ++ map g (flat_map (λ y. y) (map f ys))) xs i d h
+    ∙ (ap (λ zs. old ++ zs) (map-append g (f (get_or xs i d)) (flat_map (λ y. y) (map f (drop (i + 1) xs)))) ∙ sym (append_assoc old (map g (f (get_or xs i d))) (map g (flat_map (λ y. y) (map f (drop (i + 1) xs))))))

@@ -2,3 +2,4 @@ mod WordBytes
 mod TurnLaws
 mod FirstsLaws
 mod NestedLaws
+mod GatheredLaws

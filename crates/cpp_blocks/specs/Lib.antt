@@ -9,3 +9,8 @@ pub mod Turns
 pub mod Counted
 pub mod Nested
 pub mod Kept
+pub mod Formulas
+pub mod KeptTurns
+pub mod Steps
+pub mod Facts
+pub mod Gathered

@@ -1,5 +1,7 @@
 ghost use Rattle.std.specs.Prelude.{◌≡◌, ◌<◌, ◌≤◌, IfOk, nat_le, true, false, length};
-ghost use Rattle.std.specs.List.{AllPairs};
+ghost use Rattle.std.specs.List.{AllPairs, position_or_len};
+ghost use Rattle.ut_logic.specs.Text.{text_eq};
+ghost use Rattle.cpp_blocks.specs.PieceIdentity.{piece_eq};
 ghost use Rattle.std.specs.List.Sorted.{IsPartitionPoint};
 ghost use Rattle.cpp_read.specs.declared.directive.Directive as declared;
 ghost use Rattle.cpp_blocks.specs.Blocks as spec;
@@ -119,6 +121,26 @@ impl Blocks {
         ensures { result.now ≡ mention.names_of self.now }
     {
         self.names.as_slice()
+    }
+
+    /// The number of a macro name, or that of names where it is none of them.
+    pub fn number_of(&self, name: &Text) -> usize
+        ensures { result ≡ position_or_len (text_eq name.now) (mention.names_of self.now) }
+    {
+        match self.names.get_index_of(name) {
+            Some(number) => number,
+            None => self.names.len(),
+        }
+    }
+
+    /// The number of a piece, or that of pieces where it is none of them.
+    pub fn piece_number(&self, piece: &PieceOf) -> usize
+        ensures { result ≡ position_or_len (piece_eq piece.now) (turn.pieces_of self.now) }
+    {
+        match self.pieces.get_index_of(piece) {
+            Some(number) => number,
+            None => self.pieces.len(),
+        }
     }
 
     /// The opaque pieces, numbered from 0 by first appearance.

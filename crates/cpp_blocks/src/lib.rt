@@ -7,13 +7,21 @@
 #![tactic(auto)]
 
 mod blocks;
+mod conditions;
+mod facts;
+mod gathered;
+mod groups;
 mod mentions;
 mod nesting;
 mod piece_names;
 mod pieces;
+mod source_facts;
+mod starts;
 mod state;
 mod turns;
 
 pub use blocks::Blocks;
 pub use pieces::PieceOf;
+pub use source_facts::block_facts;
+pub use starts::{BuiltOf, StartOf};
 pub use state::MacroState;
