@@ -3,3 +3,7 @@ mod TurnLaws
 mod FirstsLaws
 mod NestedLaws
 mod GatheredLaws
+mod CondTruth
+mod Standing
+mod Meeting
+mod Along

@@ -15,7 +15,7 @@ use Rattle.cpp_blocks.specs.Run.{touches}
 use Rattle.cpp_blocks.specs.Turns.{turn_of}
 
 -- one more macro line
-one_more : (ts : List (List ℕ)) (n x : List ℕ) → turn_of (ts ++ n ∷ []) x ≡ cond (text_eq n x) (suc (turn_of ts x)) (turn_of ts x)
+pub one_more : (ts : List (List ℕ)) (n x : List ℕ) → turn_of (ts ++ n ∷ []) x ≡ cond (text_eq n x) (suc (turn_of ts x)) (turn_of ts x)
 one_more [] n x = by (text_eq n x)
   where
     by : (b : Bool) → length (cond b (n ∷ []) []) ≡ cond b 1 0

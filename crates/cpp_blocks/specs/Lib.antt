@@ -14,3 +14,4 @@ pub mod KeptTurns
 pub mod Steps
 pub mod Facts
 pub mod Gathered
+pub mod Solution
