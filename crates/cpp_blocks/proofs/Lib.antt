@@ -7,3 +7,6 @@ mod CondTruth
 mod Standing
 mod Meeting
 mod Along
+mod Numbers
+mod Sorted
+mod SolutionLaws

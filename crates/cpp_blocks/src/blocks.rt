@@ -111,7 +111,8 @@ impl Blocks {
 
     /// The directives in order.
     pub fn directives(&self) -> &[Directive]
-        ensures { result.now ≡ self.now }
+        ensures value { result.now ≡ self.now }
+        ensures formed { IsWellFormed self.now }
     {
         self.list.as_slice()
     }

@@ -2,6 +2,7 @@ ghost use Rattle.std.specs.Prelude.{◌≡◌, ◌++◌, ◌∷◌, [], length, 
 ghost use Rattle.cpp_blocks.specs.Formulas.{source_of, states_in};
 ghost use Rattle.cpp_blocks.specs.KeptTurns.{kept_turns};
 ghost use Rattle.cpp_blocks.specs.Mentions.{names_of};
+ghost use Rattle.cpp_blocks.specs.Solution.{IsTheRun};
 ghost use Rattle.cpp_blocks.specs.Steps as spec;
 ghost use Rattle.cpp_blocks.specs.Facts.{facts_of, AreStarts, is_outside};
 
@@ -149,6 +150,7 @@ pub fn block_facts(
     requires given { AreStarts file 0 starts.now }
     requires built { is_outside built.formula ≡ true }
     ensures facts { IfOk result (λ f. f.list ≡ facts_of file blocks.now starts.now built) }
+    ensures run { IfOk result (λ f. IsTheRun (source_of file blocks.now) blocks.now starts.now built f.list) }
 {
     let mut facts = Gathered::new(alloc, file, starts, built)?;
     let mut turns = Turns::new(alloc);

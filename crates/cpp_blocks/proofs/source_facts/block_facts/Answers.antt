@@ -8,7 +8,10 @@ use Rattle.cpp_blocks.specs.Gathered.{Gathered, put_all}
 use Rattle.cpp_blocks.specs.Steps.{fact_at, facts_along}
 use Rattle.cpp_blocks.specs.Turns.{touched_in}
 use Rattle.cpp_blocks.proofs.FirstsLaws.{touched_next}
+use Rattle.cpp_blocks.specs.Solution.{IsTheRun}
+use Rattle.ut_logic.specs.declared.facts.Facts.{Facts}
 use Rattle.cpp_blocks.proofs.GatheredLaws.{all_put, facts_next, turns_kept}
+use Rattle.cpp_blocks.proofs.SolutionLaws.{the_run}
 use Rattle.cpp_blocks.proofs.source_facts.block_facts.Goals as goal
 
 pub loop-directive-init : goal.loop-directive-init
@@ -25,7 +28,7 @@ loop-directive-preserved c =
     let d = c.directive-item.result in
     let touched = touched_in (take i ds) in
     let is = c.loop-directive.invariant.0 in
-    let all = c.directives-directive-items.ensures in
+    let all = c.directives-directive-items.ensures.value in
     let within : i < length ds = omega (arith, c.loop-directive-test.true, ap length all) in
     let this = c.directive-item.is ∙ ap (λ xs. get_or xs i d) all in
     let more = touched_next ds i d within this in
@@ -40,8 +43,10 @@ returns c =
     let ds = c.args.blocks.now in
     let src = source_of c.args.file ds in
     let touched = touched_in (take c.loop-directive.directive-index ds) in
-    let all = sym (ap (λ xs. put_all c.loop-directive.facts (facts_along src touched c.loop-directive.groups xs)) (drop_all c.loop-directive.directive-index ds (omega (arith, c.loop-directive-test.false, ap length c.directives-directive-items.ensures)))) ∙ c.loop-directive.invariant.1 in
+    let all = sym (ap (λ xs. put_all c.loop-directive.facts (facts_along src touched c.loop-directive.groups xs)) (drop_all c.loop-directive.directive-index ds (omega (arith, c.loop-directive-test.false, ap length c.directives-directive-items.ensures.value)))) ∙ c.loop-directive.invariant.1 in
+    let exact = all_put c.args.file c.args.starts.now (file_fact c.args.file c.args.built) (facts_along src [] at_first ds) c.loop-directive.facts all in
+    let run = the_run c.args.file ds c.args.starts.now c.args.built c.directives-directive-items.ensures.formed c.requires.count c.requires.given c.requires.built in
     record {
-      facts = IfOk-weaker c.into_facts.result _ _
-          (λ f e. e ∙ all_put c.args.file c.args.starts.now (file_fact c.args.file c.args.built) (facts_along src [] at_first ds) c.loop-directive.facts all) c.into_facts.ensures;
+      facts = IfOk-weaker c.into_facts.result _ _ (λ f e. e ∙ exact) c.into_facts.ensures;
+      run = IfOk-weaker c.into_facts.result _ (λ (f : Facts). IsTheRun src ds c.args.starts.now c.args.built f.list) (λ f e. subst (IsTheRun src ds c.args.starts.now c.args.built) (sym (e ∙ exact)) run) c.into_facts.ensures;
     }
