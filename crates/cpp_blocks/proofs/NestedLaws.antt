@@ -1,7 +1,10 @@
 -- What passing all directives gives is what the definitions of blocks say.
-use Rattle.std.proofs.Common.{◌≡◌, ℕ, ◌+◌, ◌-◌, ◌<◌, ◌≤◌, zero, suc, Bool, true, false, cond, List, [], ◌∷◌, ◌++◌, length, filter, take, get_or, refl, sym, ap, ◌∙◌, arith, append_assoc}
+use Rattle.std.proofs.Common.{◌≡◌, ℕ, ◌+◌, ◌-◌, ◌<◌, ◌≤◌, zero, suc, Bool, true, false, ◌&&◌, cond, List, [], ◌∷◌, ◌++◌, length, filter, take, get_or, refl, sym, ap, ◌∙◌, arith, append_assoc}
 use Rattle.std.specs.Prelude.{nat_le}
-use Rattle.std.specs.List.{AllPairs, AllWithin}
+use Rattle.std.specs.Prelude.{nat_lt}
+use Rattle.std.specs.List.{All, AllPairs, AllWithin}
+use Rattle.std.proofs.lemmas.List.Kept.{AllPairs-cons}
+use Rattle.cpp_blocks.specs.WellFormed.{lines_rise}
 use Rattle.std.specs.List.Sorted.{IsPartitionedBy, IsPartitionPoint}
 use Rattle.std.proofs.lemmas.List.{append-nil}
 use Rattle.std.proofs.lemmas.Bool.{false≢true}
@@ -72,8 +75,35 @@ inner_at (d ∷ ds) next inside (suc k) h = inner_at ds (next_behind next d.what
 
 -- ---- lines
 
-pub partitioned : (ds : List Directive) (line : ℕ) → AllPairs (λ (a b : Directive). a.line < b.line) ds → IsPartitionedBy (λ (d : Directive). nat_le d.line line) ds
-partitioned ds line rising i j d below within passes = grind (arith, nat_tests, rising i j d)
+pub and_left : (a b : Bool) → (a && b) ≡ true → a ≡ true
+and_left true b h = refl
+and_left false b h = h
+
+pub and_right : (a b : Bool) → (a && b) ≡ true → b ≡ true
+and_right true b h = h
+and_right false b h = absurd (false≢true h)
+
+below_of : (m n : ℕ) → nat_lt m n ≡ true → m < n
+below_of m n t = grind (arith, nat_tests)
+
+behind_all : (ds : List Directive) (line : ℕ) → lines_rise line ds ≡ true → All (λ (d : Directive). line < d.line) ds
+behind_all [] line h k d l = absurd (omega arith)
+behind_all (d ∷ ds) line h zero e l = below_of line d.line (and_left (nat_lt line d.line) (lines_rise d.line ds) h)
+behind_all (d ∷ ds) line h (suc k) e l = let b : line < d.line = below_of line d.line (and_left (nat_lt line d.line) (lines_rise d.line ds) h) in
+    let r : d.line < (get_or ds k e).line = behind_all ds d.line (and_right (nat_lt line d.line) (lines_rise d.line ds) h) k e (omega arith) in omega arith
+
+none_within : (i j : ℕ) → i < j → j < 0 → ⊥
+none_within i j l m = omega arith
+
+all_pairs : (ds : List Directive) (line : ℕ) → lines_rise line ds ≡ true → AllPairs (λ (a b : Directive). a.line < b.line) ds
+all_pairs [] line h = λ i j d l m. absurd (none_within i j l m)
+all_pairs (d ∷ ds) line h = AllPairs-cons (λ (a b : Directive). a.line < b.line) d ds (behind_all ds d.line (and_right (nat_lt line d.line) (lines_rise d.line ds) h)) (all_pairs ds d.line (and_right (nat_lt line d.line) (lines_rise d.line ds) h))
+
+in_parts : (ds : List Directive) (line : ℕ) → AllPairs (λ (a b : Directive). a.line < b.line) ds → IsPartitionedBy (λ (d : Directive). nat_le d.line line) ds
+in_parts ds line rising i j d below within passes = grind (arith, nat_tests, rising i j d)
+
+pub partitioned : (ds : List Directive) (line : ℕ) → lines_rise 0 ds ≡ true → IsPartitionedBy (λ (d : Directive). nat_le d.line line) ds
+partitioned ds line rising = in_parts ds line (all_pairs ds 0 rising)
 
 pub passing_front : {A : Type 0} (p : A → Bool) (xs : List A) (i : ℕ) → AllWithin (λ x. p x ≡ true) xs 0 i → AllWithin (λ x. p x ≡ false) xs i (length xs) → filter p xs ≡ take i xs
 passing_front p [] zero front back = refl

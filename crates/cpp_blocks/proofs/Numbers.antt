@@ -13,7 +13,8 @@ use Rattle.cpp_blocks.specs.Formulas.{source_of}
 use Rattle.cpp_blocks.specs.Mentions.{with_new, firsts, names_at}
 use Rattle.cpp_blocks.specs.Steps.{Standing, behind}
 use Rattle.cpp_blocks.specs.Steps as Steps
-use Rattle.cpp_blocks.specs.WellFormed.{Chain, takes_group, with_group, is_inside, may_stand, chains_behind, closed, chains_match}
+use Rattle.cpp_blocks.specs.declared.well_formed.Chain.{Chain}
+use Rattle.cpp_blocks.specs.WellFormed.{takes_group, with_group, is_inside, may_stand, chains_behind, closed, chains_match}
 use Rattle.cpp_blocks.proofs.Along.{AllKnown, at_end}
 use Rattle.cpp_blocks.proofs.CondTruth.{and_front, and_back}
 

@@ -1,19 +1,15 @@
 -- What holds of the directives of each source that is read: chains match, with at most 250 open chains and
 -- 1,024 groups of one chain, a source has at most 65,535 blocks, and lines rise.
 -- Rule: ISO C, "Conditional inclusion"; the limits are this project's.
-use Rattle.std.specs.Prelude.{◌≡◌, ℕ, ◌+◌, ◌<◌, ◌≤◌, Bool, true, false, not, ◌&&◌, nat_lt, List, [], ◌∷◌, length}
-use Rattle.std.specs.List.{AllPairs}
+use Rattle.std.specs.Prelude.{◌≡◌, ℕ, ◌+◌, ◌≤◌, Bool, true, false, not, ◌&&◌, nat_lt, List, [], ◌∷◌, length}
 use Rattle.cpp_read.specs.declared.directive.Directive.{Directive}
 use Rattle.cpp_read.specs.declared.directive.What.{What}
 use Rattle.cpp_read.specs.declared.directive.What.TheVariants.{If, Elif, Else, Endif, Define, Undef}
+use Rattle.cpp_blocks.specs.declared.well_formed.Chain.{Chain}
 use Rattle.cpp_blocks.specs.Blocks.{count_of}
 
--- an open chain: the number of its groups so far, and whether `#else` began one
-pub record Chain : Type 0 where
-  pub groups : ℕ
-  pub has_else : Bool
-
--- one more group of the innermost chain
+-- one more group of the innermost chain, where an open chain is told by the number of its groups so far and
+-- whether `#else` began one
 abbrev pub with_group : Bool → List Chain → List Chain
 with_group is_else [] = []
 with_group is_else (c ∷ cs) = record { groups = c.groups + 1; has_else = is_else } ∷ cs
@@ -56,8 +52,13 @@ abbrev pub chains_match : List Chain → List Directive → Bool
 chains_match cs [] = not (is_inside cs)
 chains_match cs (d ∷ ds) = may_stand cs d.what && chains_match (chains_behind cs d.what) ds
 
+-- each directive stands on a line behind that of the one before it, and the first behind this line
+abbrev pub lines_rise : ℕ → List Directive → Bool
+lines_rise line [] = true
+lines_rise line (d ∷ ds) = nat_lt line d.line && lines_rise d.line ds
+
 -- the directives of a source
 pub record IsWellFormed (ds : List Directive) : Type 0 where
   pub chains : chains_match [] ds ≡ true
-  pub rising : AllPairs (λ (a b : Directive). a.line < b.line) ds
+  pub lines : lines_rise 0 ds ≡ true
   pub blocks : count_of ds ≤ 65535

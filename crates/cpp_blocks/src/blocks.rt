@@ -1,5 +1,5 @@
 ghost use Rattle.std.specs.Prelude.{◌≡◌, ◌<◌, ◌≤◌, IfOk, nat_le, true, false, length};
-ghost use Rattle.std.specs.List.{AllPairs, position_or_len};
+ghost use Rattle.std.specs.List.{position_or_len};
 ghost use Rattle.ut_logic.specs.Text.{text_eq};
 ghost use Rattle.cpp_blocks.specs.PieceIdentity.{piece_eq};
 ghost use Rattle.std.specs.List.Sorted.{IsPartitionPoint};
@@ -8,7 +8,7 @@ ghost use Rattle.cpp_blocks.specs.Blocks as spec;
 ghost use Rattle.cpp_blocks.specs.Mentions as mention;
 ghost use Rattle.cpp_blocks.specs.Nesting as lines;
 ghost use Rattle.cpp_blocks.specs.Turns as turn;
-ghost use Rattle.cpp_blocks.specs.WellFormed.{IsWellFormed};
+ghost use Rattle.cpp_blocks.specs.WellFormed.{IsWellFormed, lines_rise};
 
 use crate::mentions::{names_of, pieces_of};
 use crate::nesting::Nesting;
@@ -154,7 +154,7 @@ impl Blocks {
 
 /// How many directives stand on lines up to this one.
 fn lines_up_to(list: &[Directive], line: u32) -> usize
-    requires { AllPairs (λ (a b : declared.Directive). a.line < b.line) list.now }
+    requires { lines_rise 0 list.now ≡ true }
     ensures within { result ≤ length list.now }
     ensures parts { IsPartitionPoint (λ (d : declared.Directive). nat_le d.line line ≡ true) (λ (d : declared.Directive). nat_le d.line line ≡ false) list.now result }
 {
