@@ -73,13 +73,19 @@ fn free_start(alloc: Global, name: u32) -> StartOf
     }
 }
 
+fn number(place: usize) -> Result<u32, AllocError>
+    ensures { IfOk result (λ n. n ≡ place) }
+{
+    u32::try_from(place).map_err(|_| AllocError)
+}
+
 fn free_starts(alloc: Global, count: usize) -> Result<Vec<StartOf>, AllocError>
     ensures count { IfOk result (λ v. length v.items ≡ count) }
     ensures given { IfOk result (λ v. AreStarts 0 0 v.items) }
 {
     let mut starts = Vec::new(alloc);
     for place in 0..count {
-        let name = u32::try_from(place).map_err(|_| AllocError)?;
+        let name = number(place)?;
         starts.push(free_start(alloc, name))?;
     }
     Ok(starts)

@@ -3,6 +3,7 @@ mod TurnLaws
 mod FirstsLaws
 mod NestedLaws
 mod GatheredLaws
+pub mod StartLaws
 mod CondTruth
 mod Standing
 mod Meeting
