@@ -1,5 +1,19 @@
+-- what public contracts rest on
 pub mod Shape
 pub mod Gathered
 pub mod Value
 pub mod Properties
 pub mod Valid
+pub mod References
+pub mod Graph
+pub mod Orders
+pub mod Limits
+pub mod Arranged
+pub mod Built
+
+-- the words of inner functions
+pub mod Apart
+pub mod Types
+pub mod Gathering
+pub mod Choosing
+pub mod TreeInside

@@ -6,6 +6,17 @@
 //! tree as a `Shape`, a record of lists in which symbols and choices are named by their places.
 #![tactic(auto)]
 
+mod bad;
+mod choices;
+mod gather;
+mod limits;
+mod outers;
+mod place;
 mod shape;
+mod tree;
+mod types;
 
+pub use bad::TreeBad;
+pub use place::Place;
 pub use shape::{Choice, Counts, Selector, Symbol};
+pub use tree::Tree;
