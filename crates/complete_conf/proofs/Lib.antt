@@ -1,0 +1,9 @@
+mod Small
+mod RightLaws
+mod ValueLaws
+mod LimitsSame
+mod OrderLaws
+mod PickLaws
+mod ChoiceLaws
+mod NodeLaws
+mod GraphOrders
