@@ -7,3 +7,7 @@ mod PickLaws
 mod ChoiceLaws
 mod NodeLaws
 mod GraphOrders
+mod Completing
+mod Rules
+mod Extremes
+mod Words

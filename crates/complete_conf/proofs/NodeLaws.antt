@@ -2,7 +2,7 @@
 -- to holds; and a right node stays right while it and what it refers to keep their values.
 use Rattle.std.proofs.Common.{◌≡◌, ℕ, ◌==◌, Bool, true, false, not, ◌&&◌, ◌||◌, cond, List, [], ◌∷◌, ◌++◌, map, refl, ap, sym, ◌∙◌, subst, Option, None, Some, ◌⊎◌, inl, inr}
 use Rattle.std.specs.Prelude.{is_some}
-use Rattle.std.specs.List.{list_any, flat_map}
+use Rattle.std.specs.List.{list_any, flat_map, find}
 use Rattle.ut_logic.specs.declared.node.Node.{Node}
 use Rattle.ut_logic.specs.declared.node.Node.TheVariants.{Sym, Choice, Block, State}
 use Rattle.ut_logic.specs.Node.{node_eq}
@@ -13,7 +13,7 @@ use Rattle.kconf_tree.specs.Properties.{choice_visibility_of}
 use Rattle.kconf_tree.specs.Valid.{calculated_of, is_y, is_n, can_be_y, allows_mode, keeps_mode, is_right_choice}
 use Rattle.kconf_tree.specs.References.{own_references, symbol_references, choice_references, node_by, node_of, references_of}
 use Rattle.complete_conf.specs.Right.{IsRight}
-use Rattle.complete_conf.specs.Free.{is_among, least_mode, free_mode, named_by_defaults, picked_of}
+use Rattle.complete_conf.specs.Free.{is_among, is_candidate, least_mode, free_mode, named_by_defaults, picked_at, picked_of}
 use Rattle.complete_conf.specs.Completion.{with_value}
 use Rattle.complete_conf.specs.Made.{IsWellMade}
 use Rattle.complete_conf.proofs.Small.{or_left, or_right, number_is, number_self, both_true, is_off}
@@ -161,6 +161,10 @@ module _ (t : Shape) (made : IsWellMade t) where
     n_bit true = refl
     n_bit false = refl
 
+    -- what is picked by a test keeps the rules
+    abbrev PickedBy : (ℕ → Bool) → Type 0
+    PickedBy q = members_test (is_the (picked_at (free_mode t c i) (find q (named_by_defaults t c (choice_at t i).defaults ++ (choice_at t i).members)))) (λ j. not (is_the (picked_at (free_mode t c i) (find q (named_by_defaults t c (choice_at t i).defaults ++ (choice_at t i).members))) j)) (can_be_y t c) (free_mode t c i) (choice_at t i).members ≡ true
+
     -- its mode and members without a user's setting keep its rules
     pub choice_settled : among node_eq (references_of t (Choice i)) (Choice i) ≡ false → is_right_choice t (settle_choice t c i) i ≡ true
     choice_settled new = both_true _ _ fits tests
@@ -186,10 +190,25 @@ module _ (t : Shape) (made : IsWellMade t) where
         ns : SameOn (is_n (settle_choice t c i)) (λ j. not (is_the (picked_of t c i) j)) (choice_at t i).members
         ns = same_on (is_n (settle_choice t c i)) (λ j. not (is_the (picked_of t c i) j)) (choice_at t i).members (λ j h. ap (λ (b : Bool). cond b (cond (is_the (picked_of t c i) j) 2 0) (c.value j) == 0) h ∙ n_bit (is_the (picked_of t c i) j))
 
+        -- the members that are listed are the symbols that are members
+        one_test : (j : ℕ) → is_the (symbol_at t j).member_of i ≡ is_among (choice_at t i).members j
+        one_test j = by (is_among (choice_at t i).members j) refl
+          where
+            none : (o : Option ℕ) → (o ≡ Some i → ⊥) → is_the o i ≡ false
+            none None h = refl
+            none (Some k) h = is_off (k == i) (λ g. h (ap Some (number_is k i g)))
+
+            by : (b : Bool) → is_among (choice_at t i).members j ≡ b → is_the (symbol_at t j).member_of i ≡ b
+            by true e = ap (λ o. is_the o i) (made.of_choice i j e) ∙ number_self i
+            by false e = none (symbol_at t j).member_of (λ h. let there = made.listed i j h in cc)
+
+        alike_tests : is_candidate t c i ≡ (λ j. is_among (choice_at t i).members j && can_be_y t c j)
+        alike_tests = λ z j. one_test j z && can_be_y t c j
+
         tests : keeps_mode t (settle_choice t c i) ((settle_choice t c i).mode i) (choice_at t i).members ≡ true
         tests = ap (λ (m : ℕ). keeps_mode t (settle_choice t c i) m (choice_at t i).members) (sym there)
             ∙ (members_same (is_y (settle_choice t c i)) (is_the (picked_of t c i)) (is_n (settle_choice t c i)) (λ j. not (is_the (picked_of t c i) j)) (can_be_y t (settle_choice t c i)) (can_be_y t c) (free_mode t c i) (choice_at t i).members ys ns cans
-            ∙ picks_right (choice_at t i).members (can_be_y t c) (free_mode t c i) (named_by_defaults t c (choice_at t i).defaults) (either_mode (choice_at t i).optional (choice_visibility_of t c i)) (made.apart i))
+            ∙ subst (λ (q : ℕ → Bool). PickedBy q) (sym alike_tests) (picks_right (choice_at t i).members (can_be_y t c) (free_mode t c i) (named_by_defaults t c (choice_at t i).defaults) (either_mode (choice_at t i).optional (choice_visibility_of t c i)) (made.apart i)))
 
   -- right, it stays right
   pub choice_goes_on : (c d : Configuration) (i : ℕ) → KeepsChoice c d i → ((m : Node) → among node_eq (references_of t (Choice i)) m ≡ true → Keeps c d m) → is_right_choice t c i ≡ true → is_right_choice t d i ≡ true

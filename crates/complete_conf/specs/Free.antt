@@ -30,7 +30,7 @@ is_among ks k = list_any (λ j. j == k) ks
 
 -- a member of the choice that can be y
 abbrev pub is_candidate : Shape → Configuration → ℕ → ℕ → Bool
-is_candidate t c i j = is_among (choice_at t i).members j && can_be_y t c j
+is_candidate t c i j = is_the (symbol_at t j).member_of i && can_be_y t c j
 
 -- the first that a default names, else the first member, that can be y
 abbrev pub candidate_of : Shape → Configuration → ℕ → Option ℕ

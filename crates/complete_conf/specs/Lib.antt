@@ -5,3 +5,6 @@ pub mod Free
 pub mod Parts
 pub mod Completion
 pub mod Made
+
+-- the words of inner functions
+pub mod Inner

@@ -8,6 +8,16 @@
 //! configuration.
 #![tactic(auto)]
 
+mod calculating;
+mod choosing;
 mod config;
+mod counting;
+mod free_values;
+mod limits;
+mod outer_truths;
+mod selecting;
+mod validity;
+mod values;
 
+pub use free_values::calc;
 pub use config::{Config, Known};
