@@ -25,6 +25,10 @@ pub match_behind : (s p q x : List ℕ) (r : Option (Bor (List ℕ))) → s ≡ 
 match_behind s p q x None h m = missing_behind s p q x h m
 match_behind s p q x (Some y) h m = found_behind s p q x y.now h m
 
+pub match_none : (s p : List ℕ) (r : Option (Bor (List ℕ))) → r ≡ None → Missing s p → MatchOption r (Missing s p) (λ y. s ≡ p ++ y.now)
+match_none s p None e m = m
+match_none s p (Some y) e m = absurd (cc)
+
 module _ {A : Type 0} (p : A → Bool) where
   place_here : (xs : List A) (k : ℕ) (d : A) → k < length xs → ((j : ℕ) → j < k → p (get_or xs j d) ≡ false) → p (get_or xs k d) ≡ true → position_or_len p xs ≡ k
   place_here [] k d l h g = absurd (omega arith)
