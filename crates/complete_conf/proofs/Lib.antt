@@ -7,7 +7,8 @@ mod PickLaws
 mod ChoiceLaws
 mod NodeLaws
 mod GraphOrders
-mod Completing
+mod PartLaws
 mod Rules
 mod Extremes
 mod Words
+mod Finding

@@ -27,7 +27,7 @@ use Rattle.complete_conf.proofs.RightLaws.{setting_from_right}
 use Rattle.complete_conf.proofs.OrderLaws.{among, settle_all, completed_right}
 use Rattle.complete_conf.proofs.NodeLaws.{settle_node, Keeps, Right, nodes_settle}
 use Rattle.complete_conf.proofs.GraphOrders.{ordered_nodes, node_in_order, any_contains, contains_any}
-use Rattle.complete_conf.proofs.Completing.{completed_append, without_members, knows, all_steps, closed_nodes, right_nodes, NoNode, empties_right}
+use Rattle.complete_conf.proofs.PartLaws.{completed_append, without_members, knows, all_steps, closed_nodes, right_nodes, NoNode, empties_right}
 
 -- ---- the nodes of a tree
 

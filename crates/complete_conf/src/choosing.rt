@@ -27,10 +27,9 @@ pub fn free_mode(tree: &Tree, config: &Config, choice: u32) -> Trit
 
 /// Whether a member can be y.
 pub fn can_be_y(tree: &Tree, config: &Config, sym: u32) -> bool
-    requires { sym < length tree.now.shape.symbols }
     ensures { result ≡ valid.can_be_y tree.now.shape (configuration_of config.now) sym }
 {
-    visibility(tree, config, sym) != Trit::N
+    sym < tree.symbols() && visibility(tree, config, sym) != Trit::N
 }
 
 /// Whether the optional number is this one.

@@ -1,6 +1,9 @@
-ghost use Rattle.std.specs.Prelude.{◌≡◌, slice_index_or};
+ghost use Rattle.std.specs.Prelude.{◌≡◌, ◌<◌, length, slice_index_or};
 ghost use Rattle.ut_logic.specs.Trit.{rank};
 ghost use Rattle.complete_conf.specs.Config.{configuration_of};
+ghost use Rattle.complete_conf.specs.Completion.{with_value};
+ghost use Rattle.complete_conf.specs.Inner.{KeepsLengths, with_mode};
+ghost use Rattle.complete_conf.specs.Parts.{part_of};
 
 use sqlite_items::Items;
 use ut_logic::Trit;
@@ -54,5 +57,43 @@ impl Config {
     {
         let number = number as usize;
         number < self.outers.len() && self.outers.as_slice()[number]
+    }
+}
+
+impl Config {
+    /// Gives a symbol another value.
+    pub fn set_value(&mut self, sym: u32, value: Trit)
+        requires { sym < length self.old.values }
+        ensures value { configuration_of self.new ≡ with_value (configuration_of self.old) sym (rank value) }
+        ensures lengths { KeepsLengths self.old self.new }
+    {
+        self.values.set(sym as usize, value);
+    }
+
+    /// Gives a choice another mode.
+    pub fn set_mode(&mut self, choice: u32, mode: Trit)
+        requires { choice < length self.old.modes }
+        ensures mode { configuration_of self.new ≡ with_mode (configuration_of self.old) choice (rank mode) }
+        ensures lengths { KeepsLengths self.old self.new }
+    {
+        self.modes.set(choice as usize, mode);
+    }
+}
+
+impl Known {
+    /// Whether a symbol is known.
+    pub fn symbol(&self, sym: u32) -> bool
+        ensures { result ≡ (part_of self.now).symbol sym }
+    {
+        let sym = sym as usize;
+        sym < self.syms.len() && self.syms.as_slice()[sym]
+    }
+
+    /// Whether a choice is known.
+    pub fn choice(&self, choice: u32) -> bool
+        ensures { result ≡ (part_of self.now).choice choice }
+    {
+        let choice = choice as usize;
+        choice < self.choices.len() && self.choices.as_slice()[choice]
     }
 }

@@ -10,14 +10,19 @@
 
 mod calculating;
 mod choosing;
+mod completing;
 mod config;
 mod counting;
 mod free_values;
+mod laws;
 mod limits;
 mod outer_truths;
 mod selecting;
 mod validity;
 mod values;
 
-pub use free_values::calc;
+pub use completing::complete;
 pub use config::{Config, Known};
+pub use free_values::calc;
+pub use laws::part_is_completed;
+pub use validity::is_valid;

@@ -49,11 +49,91 @@ fn mode_is_allowed(optional: bool, visibility: Trit, mode: Trit) -> bool
 
 /// Whether a member that is y can be, and every other is n.
 fn member_fits(tree: &Tree, config: &Config, member: u32) -> bool
-    requires { member < length tree.now.shape.symbols }
     ensures { result ≡ (if spec.is_y (configuration_of config.now) member then spec.can_be_y tree.now.shape (configuration_of config.now) member else spec.is_n (configuration_of config.now) member) }
 {
     match config.value(member) {
         Trit::Y => can_be_y(tree, config, member),
         value => value == Trit::N,
     }
+}
+
+/// Whether each member fits.
+fn members_fit(tree: &Tree, config: &Config, members: &[u32]) -> bool
+    ensures { result ≡ list_all (λ (j : ℕ). if spec.is_y (configuration_of config.now) j then spec.can_be_y tree.now.shape (configuration_of config.now) j else spec.is_n (configuration_of config.now) j) members.now }
+{
+    for member in members {
+        if !member_fits(tree, config, *member) {
+            return false;
+        }
+    }
+    true
+}
+
+/// Whether some member can be y.
+fn some_can_be_y(tree: &Tree, config: &Config, members: &[u32]) -> bool
+    ensures { result ≡ list_any (spec.can_be_y tree.now.shape (configuration_of config.now)) members.now }
+{
+    for member in members {
+        if can_be_y(tree, config, *member) {
+            return true;
+        }
+    }
+    false
+}
+
+/// How many members are y.
+fn count_y(config: &Config, members: &[u32]) -> usize
+    ensures { result ≡ length (filter (spec.is_y (configuration_of config.now)) members.now) }
+{
+    let mut count = 0;
+    for member in members {
+        if config.value(*member) == Trit::Y {
+            count += 1;
+        }
+    }
+    count
+}
+
+/// Whether the members keep the rules of a mode.
+fn keeps_mode(tree: &Tree, config: &Config, mode: Trit, members: &[u32]) -> bool
+    ensures { result ≡ spec.keeps_mode tree.now.shape (configuration_of config.now) (rank mode) members.now }
+{
+    let wanted = if mode == Trit::Y && some_can_be_y(tree, config, members) {
+        1
+    } else {
+        0
+    };
+    members_fit(tree, config, members) && count_y(config, members) == wanted
+}
+
+/// Whether a choice keeps its rules.
+fn choice_is_right(tree: &Tree, config: &Config, choice: u32) -> bool
+    requires { choice < length tree.now.shape.choices }
+    ensures { result ≡ spec.is_right_choice tree.now.shape (configuration_of config.now) choice }
+{
+    let mode = config.mode(choice);
+    let visibility = choice_visibility(tree, config, choice);
+    mode_is_allowed(tree.optional(choice), visibility, mode)
+        && keeps_mode(tree, config, mode, tree.members(choice))
+}
+
+/// Whether each choice keeps its rules.
+fn choices_are_right(tree: &Tree, config: &Config) -> bool
+    ensures { IsTrue result ↔ ((i : ℕ) → i < length tree.now.shape.choices → spec.is_right_choice tree.now.shape (configuration_of config.now) i ≡ true) }
+{
+    for choice in 0..tree.choices() {
+        if !choice_is_right(tree, config, choice) {
+            return false;
+        }
+    }
+    true
+}
+
+/// Whether a configuration is valid: some user's setting gives each symbol its own value by calculation,
+/// and each choice keeps its rules.
+pub fn is_valid(tree: &Tree, config: &Config) -> bool
+    requires fits { FitsTree tree.now.shape config.now }
+    ensures { IsTrue result ↔ spec.IsValid tree.now.shape (configuration_of config.now) }
+{
+    symbols_are_right(tree, config) && choices_are_right(tree, config)
 }
