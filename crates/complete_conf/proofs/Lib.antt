@@ -12,3 +12,6 @@ mod Rules
 mod Extremes
 mod Words
 mod Finding
+mod Picked
+mod ValidLaws
+mod Lines

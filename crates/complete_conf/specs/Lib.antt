@@ -5,6 +5,7 @@ pub mod Free
 pub mod Parts
 pub mod Completion
 pub mod Made
+pub mod Text
 
 -- the words of inner functions
 pub mod Inner

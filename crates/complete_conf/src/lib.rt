@@ -18,6 +18,7 @@ mod laws;
 mod limits;
 mod outer_truths;
 mod selecting;
+mod texts;
 mod validity;
 mod values;
 
@@ -25,4 +26,5 @@ pub use completing::complete;
 pub use config::{Config, Known};
 pub use free_values::calc;
 pub use laws::part_is_completed;
+pub use texts::config_text;
 pub use validity::is_valid;
