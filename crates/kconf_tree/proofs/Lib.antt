@@ -5,3 +5,5 @@ mod Groups
 mod TypeLaws
 mod SymbolLaws
 mod ChoiceLaws
+mod NameLaws
+mod TreeLaws

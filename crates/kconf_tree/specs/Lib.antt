@@ -16,4 +16,5 @@ pub mod Apart
 pub mod Types
 pub mod Gathering
 pub mod Choosing
+pub mod Modules
 pub mod TreeInside

@@ -1,5 +1,7 @@
-ghost use Rattle.std.specs.Prelude.{◌≡◌, ◌<◌, ◌≤◌, ◌^◌, length, slice_index_or, IfSome, []};
+ghost use Rattle.std.specs.Prelude.{◌≡◌, ◌<◌, ◌≤◌, ◌^◌, length, slice_index_or, All, IfSome, []};
 ghost use Rattle.kconf_tree.specs.Shape as spec;
+
+mod gathering;
 
 use crate::shape::{Choice, Symbol};
 use crate::types::Types;
@@ -110,7 +112,8 @@ impl Tree {
 
     /// The number of the modules symbol, if there is one.
     pub fn modules(&self) -> Option<u32>
-        ensures { result ≡ self.now.shape.modules }
+        ensures value { result ≡ self.now.shape.modules }
+        ensures within { IfSome result (λ k. k < length self.now.shape.symbols) }
     {
         self.modules
     }
@@ -173,7 +176,8 @@ impl Tree {
     /// The members of a choice, in order of their numbers.
     pub fn members(&self, choice: u32) -> &[u32]
         requires { choice < length self.now.shape.choices }
-        ensures { result.now ≡ (spec.choice_at self.now.shape choice).members }
+        ensures value { result.now ≡ (spec.choice_at self.now.shape choice).members }
+        ensures within { All (λ k. k < length self.now.shape.symbols) result.now }
     {
         self.choices[choice as usize].members.as_slice()
     }
