@@ -7,3 +7,4 @@ mod SymbolLaws
 mod ChoiceLaws
 mod NameLaws
 mod TreeLaws
+mod Bounds

@@ -1,7 +1,7 @@
 -- What is gathered is the tree of the entries.
-use Rattle.std.proofs.Common.{◌≡◌, ℕ, zero, suc, ◌+◌, ◌<◌, Bool, true, false, not, ◌&&◌, ◌||◌, cond, Option, None, Some, List, [], ◌∷◌, ◌++◌, length, map, position, get_or, refl, ap, sym, subst, ◌∙◌, arith}
+use Rattle.std.proofs.Common.{◌≡◌, ℕ, zero, suc, ◌+◌, ◌<◌, Bool, true, false, not, ◌&&◌, ◌||◌, cond, Option, None, Some, List, [], ◌∷◌, ◌++◌, length, map, position, get_or, drop, refl, ap, sym, subst, ◌∙◌, arith}
 use Rattle.std.proofs.lemmas.Iterator.Adapters.{position_from-zero}
-use Rattle.std.proofs.lemmas.List.{length-map}
+use Rattle.std.proofs.lemmas.List.{length-map, drop_more}
 use Rattle.std.specs.List.{flat_map, position_from}
 use Rattle.std.specs.Option.{option_or}
 use Rattle.ut_logic.specs.Text.{text_eq}
@@ -23,12 +23,24 @@ use Rattle.kconf_tree.specs.declared.types.Declared.{Declared}
 use Rattle.kconf_tree.specs.Shape.{Shape, no_symbol, symbol_at, number_of}
 use Rattle.kconf_tree.specs.Value.{has_trit, has_trit_named, is_text_or_number, compares_trits, comparison_text, is_equation}
 use Rattle.kconf_tree.specs.Gathered.{once, entries_named, first_kind, symbol_of, symbols_of, is_bool_or_tristate, has_modules_line, modules_of, joined, outers_step, outers_in, outers_of_config, outers_of_choice, without_outers, gathered}
-use Rattle.kconf_tree.specs.Types.{declared_by, names_of, types_of, typed, typed_symbol, outers_with}
+use Rattle.kconf_tree.specs.Types.{declared_by, names_of, types_of, typed, typed_symbol, declared_at, outers_with}
 use Rattle.kconf_tree.specs.Modules.{modules_from}
 use Rattle.kconf_tree.specs.TreeInside.{names_in}
+use Rattle.kconf_tree.proofs.ChoiceLaws.{next_left}
 use Rattle.kconf_tree.proofs.NameLaws.{numbers_by_names}
 
 -- ---- the modules symbol
+
+-- one symbol that isn't the one
+pub next_passed : (ts : List (List ℕ × Declared)) (ss : List Symbol) (n : ℕ) (s : Symbol) → n < length ss → length ss ≡ length ts → s ≡ get_or ss n s → (is_bool_or_tristate s && (declared_at ts n).modules) ≡ false
+    → modules_from (n + 1) (drop (n + 1) ts) (drop (n + 1) ss) ≡ modules_from n (drop n ts) (drop n ss)
+next_passed ts ss n s l c e h = sym ((λ i. modules_from n (t i) (u i)) ∙ ap (λ b. cond b (Some n) (modules_from (n + 1) (drop (n + 1) ts) (drop (n + 1) ss))) h)
+  where
+    t : drop n ts ≡ get_or ts n ([], record { kind = kind.Untyped; modules = false }) ∷ drop (n + 1) ts
+    t = drop_more ts n _ (omega arith)
+
+    u : drop n ss ≡ s ∷ drop (n + 1) ss
+    u = next_left ss n s l e
 
 module _ (es : List ConfigEntry) where
   abbrev declared_named : List ℕ → List ℕ × Declared
