@@ -8,3 +8,8 @@ mod ChoiceLaws
 mod NameLaws
 mod TreeLaws
 mod Bounds
+mod GraphLaws
+mod WalkLaws
+mod StepLaws
+mod LayerLaws
+mod ReturnLaws

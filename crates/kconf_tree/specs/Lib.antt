@@ -18,3 +18,9 @@ pub mod Gathering
 pub mod Choosing
 pub mod Modules
 pub mod TreeInside
+pub mod Lists
+pub mod Turning
+pub mod Walks
+pub mod Searching
+pub mod Layers
+pub mod Returns

@@ -8,9 +8,15 @@
 
 mod bad;
 mod choices;
+mod cycle;
+mod distance;
 mod gather;
+mod graph;
+#[cfg(test)]
+mod graph_tests;
 mod limits;
 mod modules_symbol;
+mod order;
 mod outers;
 mod place;
 mod references;
