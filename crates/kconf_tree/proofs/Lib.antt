@@ -13,3 +13,4 @@ mod WalkLaws
 mod StepLaws
 mod LayerLaws
 mod ReturnLaws
+mod LinkLaws

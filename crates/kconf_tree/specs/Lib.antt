@@ -18,6 +18,9 @@ pub mod Gathering
 pub mod Choosing
 pub mod Modules
 pub mod TreeInside
+pub mod Linking
+pub mod Links
+pub mod Numbering
 pub mod Lists
 pub mod Turning
 pub mod Walks

@@ -117,8 +117,12 @@ node_by k (Some i) = Choice i
 abbrev pub node_of : Shape → ℕ → Node
 node_of t k = node_by k (symbol_at t k).member_of
 
+-- the symbols that a node refers to
+abbrev pub numbers_of : Shape → Node → List ℕ
+numbers_of t (Sym k) = symbol_references t k
+numbers_of t (Choice i) = choice_references t i
+numbers_of t n = []
+
 -- the nodes that a node refers to
 abbrev pub references_of : Shape → Node → List Node
-references_of t (Sym k) = map (node_of t) (symbol_references t k)
-references_of t (Choice i) = map (node_of t) (choice_references t i)
-references_of t n = []
+references_of t n = map (node_of t) (numbers_of t n)

@@ -23,4 +23,5 @@ pub record IsKept (t : Inside) : Type 0 where
   pub symbols : length t.symbols.items ≤ 65536
   pub choices : length t.choices.items < 2 ^ 32
   pub modules : IfSome t.modules (λ k. k < length t.symbols.items)
+  pub member_of : All (λ (s : Symbol). IfSome s.member_of (λ i. i < length t.choices.items)) t.symbols.items
   pub members : All (λ (c : Choice). All (λ k. k < length t.symbols.items) c.members) t.choices.items

@@ -15,7 +15,10 @@ mod graph;
 #[cfg(test)]
 mod graph_tests;
 mod limits;
+mod links;
 mod modules_symbol;
+mod node_references;
+mod numbering;
 mod order;
 mod outers;
 mod place;

@@ -13,7 +13,7 @@ use std::alloc::AllocError;
 use ut_logic::{Text, Trit};
 
 /// Adds a number, if there is one.
-fn push(row: &mut Items<u32>, number: Option<u32>) -> Result<(), AllocError>
+pub fn push(row: &mut Items<u32>, number: Option<u32>) -> Result<(), AllocError>
     ensures { OnOk result (row.new ≡ row.old ++ listed number) }
 {
     match number {

@@ -79,7 +79,8 @@ impl Tree {
     /// The choice that a symbol is a member of, if there is one.
     pub fn member_of(&self, sym: u32) -> Option<u32>
         requires { sym < length self.now.shape.symbols }
-        ensures { result ≡ (spec.symbol_at self.now.shape sym).member_of }
+        ensures value { result ≡ (spec.symbol_at self.now.shape sym).member_of }
+        ensures within { IfSome result (λ i. i < length self.now.shape.choices) }
     {
         self.symbols[sym as usize].member_of
     }

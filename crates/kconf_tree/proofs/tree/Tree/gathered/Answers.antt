@@ -39,6 +39,8 @@ invariant_of-result c = let es = c.args.entries.configs in let cs = c.args.entri
       symbols = omega (arith, ap length symbols, length-symbols es, ap length c.requires.types, c.requires.few);
       choices = omega (arith, ap length choices, length-choices es 0 cs, c.requires.choices.numbered);
       modules = subst (λ n. IsBelow n c.modules_among-modules.result) (ap length c.deref-3.ensures.value) c.modules_among-modules.ensures.within;
+      member_of = subst (λ (ss : List Symbol). All (λ (x : Symbol). IsBelow (length c.in_ok-choices.choices.items) x.member_of) ss) (sym symbols)
+          (subst (λ n. All (λ (x : Symbol). IsBelow n x.member_of) (symbols_of es)) (sym (ap length choices ∙ length-choices es 0 cs)) (members_below (length cs) es c.requires.choices.there));
       members = subst (λ (xs : List Choice). All (λ (x : Choice). All (λ k. k < length c.in_ok-symbols.symbols.items) x.members) xs) (sym choices)
           (subst (λ (ss : List Symbol). All (λ (x : Choice). All (λ k. k < length ss) x.members) (choices_from es 0 cs)) (sym symbols) (choices_below es cs));
     }
