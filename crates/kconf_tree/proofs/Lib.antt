@@ -14,3 +14,4 @@ mod StepLaws
 mod LayerLaws
 mod ReturnLaws
 mod LinkLaws
+mod GraphOf

@@ -16,7 +16,7 @@ use Rattle.kconf_tree.specs.Shape.{Shape, no_symbol, symbol_at, number_of, is_th
 use Rattle.kconf_tree.specs.Value.{Condition}
 use Rattle.kconf_tree.specs.References.{numbers_in, of_selector}
 use Rattle.kconf_tree.specs.Apart.{AreApart}
-use Rattle.kconf_tree.specs.TreeInside.{names_in}
+use Rattle.kconf_tree.specs.Apart.{names_in}
 use Rattle.kconf_tree.specs.Linking.{list_of, linkers_of, with_more, linked_one, linked_each, linked_all}
 
 -- ---- the number of a target

@@ -3,7 +3,7 @@ use Rattle.std.proofs.Common.{◌≡◌, ℕ, zero, suc, ◌+◌, ◌<◌, Bool,
 use Rattle.ut_logic.specs.Text.{text_eq}
 use Rattle.kconf_tree.specs.declared.shape.Symbol.{Symbol}
 use Rattle.kconf_tree.specs.Shape.{Shape, number_of}
-use Rattle.kconf_tree.specs.TreeInside.{names_in}
+use Rattle.kconf_tree.specs.Apart.{names_in}
 use Rattle.kconf_tree.proofs.Places.{position-map}
 
 -- a name's number depends on the names alone

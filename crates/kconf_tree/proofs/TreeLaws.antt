@@ -25,7 +25,7 @@ use Rattle.kconf_tree.specs.Value.{has_trit, has_trit_named, is_text_or_number, 
 use Rattle.kconf_tree.specs.Gathered.{once, entries_named, first_kind, symbol_of, symbols_of, is_bool_or_tristate, has_modules_line, modules_of, joined, outers_step, outers_in, outers_of_config, outers_of_choice, without_outers, gathered}
 use Rattle.kconf_tree.specs.Types.{declared_by, names_of, types_of, typed, typed_symbol, declared_at, outers_with}
 use Rattle.kconf_tree.specs.Modules.{modules_from}
-use Rattle.kconf_tree.specs.TreeInside.{names_in}
+use Rattle.kconf_tree.specs.Apart.{names_in}
 use Rattle.kconf_tree.proofs.ChoiceLaws.{next_left}
 use Rattle.kconf_tree.proofs.NameLaws.{numbers_by_names}
 

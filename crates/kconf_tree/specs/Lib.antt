@@ -10,9 +10,9 @@ pub mod Orders
 pub mod Limits
 pub mod Arranged
 pub mod Built
+pub mod Apart
 
 -- the words of inner functions
-pub mod Apart
 pub mod Types
 pub mod Gathering
 pub mod Choosing

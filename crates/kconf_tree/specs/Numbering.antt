@@ -18,3 +18,7 @@ place_among nodes n = position_or_len (node_eq n) nodes
 -- the places of the nodes of symbols
 abbrev pub places_among : Shape → List Node → List ℕ → List ℕ
 places_among t nodes ks = map (λ k. place_among nodes (node_of t k)) ks
+
+-- those of each list
+abbrev pub rows_among : Shape → List Node → List (List ℕ) → List (List ℕ)
+rows_among t nodes lists = map (places_among t nodes) lists

@@ -1,4 +1,4 @@
-ghost use Rattle.std.specs.Prelude.{◌≡◌, ◌<◌, [], ◌∷◌, ◌++◌, length, replicate, slice_set, All, IfOk, OnErr, OnOk};
+ghost use Rattle.std.specs.Prelude.{◌≡◌, ◌<◌, [], ◌∷◌, ◌++◌, length, map, replicate, slice_set, All, IfOk, OnErr, OnOk};
 ghost use Rattle.kconf_tree.specs.Graph.{IsGraph, IsReverse, refers_of};
 ghost use Rattle.kconf_tree.specs.Turning.{AddsEach};
 
@@ -34,6 +34,14 @@ impl Graph {
             lists.push(Vec::new(alloc))?;
         }
         Ok(Graph { lists })
+    }
+
+    /// The graph whose nodes have these references.
+    pub fn of(lists: Vec<Vec<u32>>) -> Graph
+        requires { IsGraph (map (λ list. list.items) lists.items) }
+        ensures { result ≡ map (λ list. list.items) lists.items }
+    {
+        Graph { lists }
     }
 
     /// How many nodes there are.

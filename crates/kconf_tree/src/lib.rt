@@ -22,6 +22,7 @@ mod numbering;
 mod order;
 mod outers;
 mod place;
+mod tree_graph;
 mod references;
 mod shape;
 mod tree;

@@ -2,7 +2,7 @@ ghost use Rattle.std.specs.Prelude.{◌≡◌, ◌<◌, [], length, All, IfOk, O
 ghost use Rattle.kconf_tree.specs.Shape.{no_symbol};
 ghost use Rattle.ut_logic.specs.Text.{text_eq};
 ghost use Rattle.kconf_tree.specs.Apart.{AreApart};
-ghost use Rattle.kconf_tree.specs.TreeInside.{names_in};
+ghost use Rattle.kconf_tree.specs.Apart.{names_in};
 ghost use Rattle.kconf_tree.specs.Linking.{linked_one, linked_each, linked_all, list_of};
 ghost use Rattle.kconf_tree.specs.Links.{AreLinks};
 

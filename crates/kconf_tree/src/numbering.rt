@@ -21,8 +21,9 @@ pub struct NodeLists {
 }
 
 /// The order number of a node.
-fn place(nodes: &IndexSet<Node>, node: Node) -> usize
-    ensures { result ≡ place_among nodes.now.keys node }
+pub fn place(nodes: &IndexSet<Node>, node: Node) -> usize
+    ensures place { result ≡ place_among nodes.now.keys node }
+    ensures within { result ≤ length nodes.now.keys }
 {
     match nodes.get_index_of(&node) {
         Some(place) => place,
@@ -32,7 +33,7 @@ fn place(nodes: &IndexSet<Node>, node: Node) -> usize
 
 impl Tree {
     /// The node of a symbol.
-    fn node_of(&self, sym: u32) -> Node
+    pub fn node_of(&self, sym: u32) -> Node
         requires { sym < length self.now.shape.symbols }
         ensures { result ≡ spec.node_of self.now.shape sym }
     {

@@ -1,7 +1,11 @@
 ghost use Rattle.std.specs.Prelude.{◌≡◌, ◌<◌, ◌≤◌, ◌^◌, length, slice_index_or, All, IfSome, []};
+ghost use Rattle.ut_logic.specs.Text.{text_eq};
 ghost use Rattle.kconf_tree.specs.Shape as spec;
+ghost use Rattle.kconf_tree.specs.Apart.{AreApart, names_in};
 
+mod building;
 mod gathering;
+mod ordering;
 
 use crate::shape::{Choice, Symbol};
 use crate::types::Types;
@@ -41,7 +45,9 @@ impl Model for Tree {
 impl Tree {
     /// How many symbols there are.
     pub fn symbols(&self) -> u32
-        ensures { result ≡ length self.now.shape.symbols }
+        ensures count { result ≡ length self.now.shape.symbols }
+        ensures few { length self.now.shape.symbols ≤ 65536 }
+        ensures apart { AreApart text_eq (names_in self.now.shape.symbols) }
     {
         self.symbols.len() as u32
     }

@@ -9,7 +9,7 @@ use Rattle.kconf_tree.specs.Gathered.{symbols_of, choices_from, gathered}
 use Rattle.kconf_tree.specs.Types.{types_of, typed, outers_with}
 use Rattle.kconf_tree.specs.Choosing.{typed_by_all, bare_choices, with_members}
 use Rattle.kconf_tree.specs.Modules.{modules_from}
-use Rattle.kconf_tree.specs.TreeInside.{names_in}
+use Rattle.kconf_tree.specs.Apart.{names_in}
 use Rattle.kconf_tree.proofs.Groups.{names_apart}
 use Rattle.kconf_tree.proofs.Bounds.{IsBelow, members_below, choices_below}
 use Rattle.kconf_tree.proofs.TreeLaws.{modules_are, names_are, names_once, length-symbols, outers_are}
