@@ -15,3 +15,4 @@ mod LayerLaws
 mod ReturnLaws
 mod LinkLaws
 mod GraphOf
+mod BuildLaws

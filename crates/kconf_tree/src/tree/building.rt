@@ -29,12 +29,14 @@ impl Tree {
         ensures refused { IfErr result (IsRefused entries) }
     {
         let types = Types::of(alloc, entries.configs.as_slice())?;
-        if let Some(passed) = past_symbols(types.len()) {
-            return Err(too_many(passed));
+        match past_symbols(types.len()) {
+            Some(passed) => return Err(too_many(passed)),
+            None => {}
         }
         let mut tree = Tree::gathered(alloc, types, entries)?;
-        if let Some(passed) = past_each(tree.choices.as_slice(), tree.symbols.as_slice()) {
-            return Err(too_many(passed));
+        match past_each(tree.choices.as_slice(), tree.symbols.as_slice()) {
+            Some(passed) => return Err(too_many(passed)),
+            None => {}
         }
         let order = tree.find_order(alloc)?;
         tree.order = order;
