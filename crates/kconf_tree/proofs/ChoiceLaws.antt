@@ -50,7 +50,7 @@ length-bare [] es h = h
 length-bare (k ∷ ks) [] h = refl
 length-bare (k ∷ ks) (e ∷ es) h = ap suc (length-bare ks es (omega arith))
 
-length-choices : (es : List ConfigEntry) (i : ℕ) (cs : List ChoiceEntry) → length (choices_from es i cs) ≡ length cs
+pub length-choices : (es : List ConfigEntry) (i : ℕ) (cs : List ChoiceEntry) → length (choices_from es i cs) ≡ length cs
 length-choices es i [] = refl
 length-choices es i (c ∷ cs) = ap suc (length-choices es (suc i) cs)
 

@@ -8,6 +8,8 @@ use Rattle.kconf_parse.specs.declared.expr.Expr.TheFolds.{fold_out-Expr, map-Exp
 use Rattle.kconf_parse.specs.declared.expr.Expr.TheViews.{the_lemmas}
 use Rattle.kconf_tree.specs.Shape.{Shape}
 use Rattle.kconf_tree.specs.Gathered.{outers_step, outers_in}
+use Rattle.kconf_tree.specs.Value.{Place}
+use Rattle.kconf_tree.specs.References.{numbers_step, numbers_in}
 
 pub joined_map : {A B : Type 0} (f : A → List B) (xs : List A) → flat_map (λ y. y) (map f xs) ≡ flat_map f xs
 joined_map f [] = refl
@@ -27,3 +29,12 @@ outers_and t es = sym (outers_out t (And es) ∙ (ap (λ (x : Expr-F Expr). oute
 
 pub outers_or : (t : Shape) (es : List Expr) → flat_map (outers_in t) es ≡ outers_in t (Or es)
 outers_or t es = sym (outers_out t (Or es) ∙ (ap (λ (x : Expr-F Expr). outers_step t (map-Expr Expr (List (List ℕ)) (outers_in t) x)) (out_or es) ∙ joined_map (outers_in t) es))
+
+numbers_out : (t : Shape) (p : Place) (e : Expr) → numbers_in t p e ≡ numbers_step t p (map-Expr Expr (List ℕ) (numbers_in t p) (out-Expr e))
+numbers_out t p e = fold_out-Expr (List ℕ) (numbers_step t p) e
+
+pub numbers_and : (t : Shape) (p : Place) (es : List Expr) → flat_map (numbers_in t p) es ≡ numbers_in t p (And es)
+numbers_and t p es = sym (numbers_out t p (And es) ∙ (ap (λ (x : Expr-F Expr). numbers_step t p (map-Expr Expr (List ℕ) (numbers_in t p) x)) (out_and es) ∙ joined_map (numbers_in t p) es))
+
+pub numbers_or : (t : Shape) (p : Place) (es : List Expr) → flat_map (numbers_in t p) es ≡ numbers_in t p (Or es)
+numbers_or t p es = sym (numbers_out t p (Or es) ∙ (ap (λ (x : Expr-F Expr). numbers_step t p (map-Expr Expr (List ℕ) (numbers_in t p) x)) (out_or es) ∙ joined_map (numbers_in t p) es))

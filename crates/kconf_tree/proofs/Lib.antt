@@ -5,3 +5,14 @@ mod Groups
 mod TypeLaws
 mod SymbolLaws
 mod ChoiceLaws
+mod NameLaws
+mod TreeLaws
+mod Bounds
+mod GraphLaws
+mod WalkLaws
+mod StepLaws
+mod LayerLaws
+mod ReturnLaws
+mod LinkLaws
+mod GraphOf
+mod BuildLaws

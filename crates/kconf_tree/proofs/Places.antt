@@ -1,6 +1,6 @@
 -- Where the first element that passes a test stands, and lists with each element once.
-use Rattle.std.proofs.Common.{◌≡◌, ℕ, zero, suc, ◌+◌, ◌<◌, ◌≤◌, Bool, true, false, not, ◌&&◌, ◌||◌, cond, nat_lt, Option, None, Some, List, [], ◌∷◌, ◌++◌, length, map, filter, position, get_or, slice_get, set, refl, ap, sym, subst, ◌∙◌, arith}
-use Rattle.std.proofs.lemmas.Bool.{false≢true, lt-ltb}
+use Rattle.std.proofs.Common.{◌≡◌, ℕ, zero, suc, ◌+◌, ◌<◌, ◌≤◌, Bool, true, false, not, ◌&&◌, ◌||◌, cond, ltb, nat_lt, Option, None, Some, List, [], ◌∷◌, ◌++◌, length, map, filter, position, get_or, slice_get, set, refl, ap, sym, subst, ◌∙◌, arith}
+use Rattle.std.proofs.lemmas.Bool.{false≢true, lt-ltb, ltb-false}
 
 use Rattle.std.specs.Cmp.{IsEquivalence}
 use Rattle.std.specs.List.{list_any, position_or_len, prefix_len}
@@ -121,3 +121,19 @@ pub read_mapped : {A B : Type 0} (f : A → B) (xs : List A) (k : ℕ) (x : A) (
 read_mapped f [] k x d h = absurd (cc)
 read_mapped f (y ∷ ys) zero x d h = ap f (cc)
 read_mapped f (y ∷ ys) (suc k) x d h = read_mapped f ys k x d h
+
+place_most : {A : Type 0} (p : A → Bool) (xs : List A) → position_or_len p xs ≤ length xs
+place_most p [] = omega arith
+place_most p (x ∷ xs) = by (p x) (place_most p xs)
+  where
+    by : (b : Bool) → position_or_len p xs ≤ length xs → cond (not b) (1 + position_or_len p xs) 0 ≤ suc (length xs)
+    by true g = omega arith
+    by false g = omega (arith, g)
+
+-- what isn't there has the place behind the list
+pub no_place : {A : Type 0} (p : A → Bool) (xs : List A) → position p xs ≡ None → length xs ≡ position_or_len p xs
+no_place p xs h = by (ltb (position_or_len p xs) (length xs)) refl h
+  where
+    by : (b : Bool) → ltb (position_or_len p xs) (length xs) ≡ b → cond b (Some (position_or_len p xs)) None ≡ None → length xs ≡ position_or_len p xs
+    by true e g = absurd (cc)
+    by false e g = omega (arith, place_most p xs, ltb-false (position_or_len p xs) (length xs) e)

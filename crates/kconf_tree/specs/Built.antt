@@ -10,7 +10,7 @@ use Rattle.kconf_tree.specs.declared.bad.TreeBad.TheVariants.{TooMany, Recursive
 use Rattle.kconf_tree.specs.Shape.{Shape}
 use Rattle.kconf_tree.specs.Gathered.{gathered}
 use Rattle.kconf_tree.specs.Limits.{first_passed}
-use Rattle.kconf_tree.specs.Orders.{IsOrder, IsFirstCycle}
+use Rattle.kconf_tree.specs.Orders.{IsOrder, IsAccepted, IsFirstCycle}
 use Rattle.kconf_tree.specs.Arranged.{Arranged}
 
 -- each choice that a config stands in is there, and a u32 has room for their numbers
@@ -27,5 +27,5 @@ pub record IsTreeOf (e : Entries) (t : Arranged) : Type 0 where
 -- a limit that is passed, or within the limits a cycle
 abbrev pub IsRefused : Entries → TreeBad → Type 0
 IsRefused e (TooMany what count) = first_passed (gathered e) ≡ Some (record { what = what; count = count })
-IsRefused e (Recursive cycle) = (first_passed (gathered e) ≡ None) × IsFirstCycle (gathered e) cycle
+IsRefused e (Recursive cycle) = (first_passed (gathered e) ≡ None) × ((¬ IsAccepted (gathered e)) × IsFirstCycle (gathered e) cycle)
 IsRefused e Oom = Unit {0}

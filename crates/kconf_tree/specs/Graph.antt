@@ -61,3 +61,6 @@ pub record IsOrder (g : List (List ℕ)) (order : List ℕ) : Type 0 where
   pub all : (a : ℕ) → a < length g → Contains order a
   pub only : All (λ a. a < length g) order
   pub in_order : IsInOrder g order
+
+abbrev pub HasOrder : List (List ℕ) → Type 0
+HasOrder g = (order : List ℕ) × IsOrder g order

@@ -10,10 +10,20 @@ pub mod Orders
 pub mod Limits
 pub mod Arranged
 pub mod Built
+pub mod Apart
 
 -- the words of inner functions
-pub mod Apart
 pub mod Types
 pub mod Gathering
 pub mod Choosing
+pub mod Modules
 pub mod TreeInside
+pub mod Linking
+pub mod Links
+pub mod Numbering
+pub mod Lists
+pub mod Turning
+pub mod Walks
+pub mod Searching
+pub mod Layers
+pub mod Returns

@@ -9,7 +9,9 @@ use Rattle.kconf_tree.specs.declared.shape.Choice.{Choice as OneChoice}
 use Rattle.kconf_tree.specs.Shape.{Shape, choice_at}
 use Rattle.kconf_tree.specs.Gathered.{distinct}
 use Rattle.kconf_tree.specs.References.{node_of, references_of}
-use Rattle.kconf_tree.specs.Graph.{IsOrder as IsGraphOrder, IsFirstCycle as IsFirstGraphCycle}
+use Rattle.kconf_tree.specs.declared.bad.TreeBad.{TreeBad}
+use Rattle.kconf_tree.specs.declared.bad.TreeBad.TheVariants.{TooMany, Recursive, Oom}
+use Rattle.kconf_tree.specs.Graph.{HasOrder, IsOrder as IsGraphOrder, IsFirstCycle as IsFirstGraphCycle}
 
 -- the nodes in order: that of each symbol, by the first symbol of a node. A choice without members is
 -- left out, since no node refers to it.
@@ -44,8 +46,18 @@ pub record IsOrder (t : Shape) (order : List Node) : Type 0 where
   pub orders : IsGraphOrder (graph_of t) numbers
   pub listed : order ≡ flat_map (λ k. with_members t (node_at t k)) numbers ++ empty_choices 0 t.choices
 
+-- some order is there
+abbrev pub IsAccepted : Shape → Type 0
+IsAccepted t = HasOrder (graph_of t)
+
 -- a cycle of nodes: that of the first node that lies on one, a shortest one, and of these the least
 pub record IsFirstCycle (t : Shape) (cycle : List Node) : Type 0 where
   pub numbers : List ℕ
   pub first : IsFirstGraphCycle (graph_of t) numbers
   pub listed : cycle ≡ map (node_at t) numbers
+
+-- a tree without an order, and its cycle; want of memory says nothing
+abbrev pub IsRecursive : Shape → TreeBad → Type 0
+IsRecursive t (Recursive cycle) = (¬ IsAccepted t) × IsFirstCycle t cycle
+IsRecursive t (TooMany what count) = ⊥
+IsRecursive t Oom = Unit {0}

@@ -11,6 +11,7 @@ use Rattle.ut_logic.specs.declared.node.Node.{Node}
 use Rattle.ut_logic.specs.declared.node.Node.TheVariants.{Sym, Choice}
 use Rattle.kconf_parse.specs.declared.expr.Side.{Side}
 use Rattle.kconf_parse.specs.declared.expr.Side.TheVariants as side
+use Rattle.kconf_parse.specs.declared.expr.Sign.{Sign}
 use Rattle.kconf_parse.specs.declared.expr.Expr.{Expr}
 use Rattle.kconf_parse.specs.declared.expr.Expr.TheOpen.{Expr-F}
 use Rattle.kconf_parse.specs.declared.expr.Expr.TheFolds.{fold-Expr}
@@ -38,12 +39,16 @@ abbrev pub const_numbers : Shape → Place → Trit → List ℕ
 const_numbers t Condition M = option_to_list t.modules
 const_numbers t p x = []
 
+-- both sides of a comparison of two of the three values
+abbrev pub compared_numbers : Shape → Side → Sign → Side → List ℕ
+compared_numbers t left s right = if compares_trits t left s right then side_numbers t left ++ side_numbers t right else []
+
 -- what stands in outer conditions alone doesn't count
 abbrev pub numbers_step : Shape → Place → Expr-F (List ℕ) → List ℕ
 numbers_step t p (Expr-F.Const x) = const_numbers t p x
 numbers_step t p (Expr-F.Name name) = named_by t name
 numbers_step t p (Expr-F.Outer text) = []
-numbers_step t p (Expr-F.Compare left s right) = if compares_trits t left s right then side_numbers t left ++ side_numbers t right else []
+numbers_step t p (Expr-F.Compare left s right) = compared_numbers t left s right
 numbers_step t p (Expr-F.Neg ks) = ks
 numbers_step t p (Expr-F.And lists) = flat_map (λ ks. ks) lists
 numbers_step t p (Expr-F.Or lists) = flat_map (λ ks. ks) lists
@@ -112,8 +117,12 @@ node_by k (Some i) = Choice i
 abbrev pub node_of : Shape → ℕ → Node
 node_of t k = node_by k (symbol_at t k).member_of
 
+-- the symbols that a node refers to
+abbrev pub numbers_of : Shape → Node → List ℕ
+numbers_of t (Sym k) = symbol_references t k
+numbers_of t (Choice i) = choice_references t i
+numbers_of t n = []
+
 -- the nodes that a node refers to
 abbrev pub references_of : Shape → Node → List Node
-references_of t (Sym k) = map (node_of t) (symbol_references t k)
-references_of t (Choice i) = map (node_of t) (choice_references t i)
-references_of t n = []
+references_of t n = map (node_of t) (numbers_of t n)

@@ -1,15 +1,12 @@
 -- The parts of a tree, and what is true of them. No public contract cites this module.
-use Rattle.std.specs.Prelude.{◌≡◌, ◌<◌, ◌≤◌, ◌^◌, List, ℕ, length, map}
+use Rattle.std.specs.Prelude.{◌≡◌, ◌<◌, ◌≤◌, ◌^◌, ℕ, length, All, IfSome}
 use Rattle.ut_logic.specs.Text.{text_eq}
 use Rattle.kconf_tree.specs.declared.shape.Symbol.{Symbol}
+use Rattle.kconf_tree.specs.declared.shape.Choice.{Choice}
 use Rattle.kconf_tree.specs.declared.tree.Tree.TheInside.{Inside}
 use Rattle.kconf_tree.specs.Types.{typed}
 use Rattle.kconf_tree.specs.Arranged.{Arranged}
-use Rattle.kconf_tree.specs.Apart.{AreApart}
-
--- the names of symbols
-abbrev pub names_in : List Symbol → List (List ℕ)
-names_in ss = map (λ (s : Symbol). s.name) ss
+use Rattle.kconf_tree.specs.Apart.{AreApart, names_in}
 
 -- the tree of the parts
 abbrev pub arranged_of : Inside → Arranged
@@ -21,3 +18,6 @@ pub record IsKept (t : Inside) : Type 0 where
   pub apart : AreApart text_eq (names_in t.symbols.items)
   pub symbols : length t.symbols.items ≤ 65536
   pub choices : length t.choices.items < 2 ^ 32
+  pub modules : IfSome t.modules (λ k. k < length t.symbols.items)
+  pub member_of : All (λ (s : Symbol). IfSome s.member_of (λ i. i < length t.choices.items)) t.symbols.items
+  pub members : All (λ (c : Choice). All (λ k. k < length t.symbols.items) c.members) t.choices.items

@@ -46,7 +46,7 @@ fn type_by(kinds: &mut Vec<Kind>, types: &Types, config: &ConfigEntry)
 
 /// The types of the choices: each its own, else that of the first type line in it; untyped where there
 /// is neither.
-fn typed_kinds(
+pub fn typed_kinds(
     alloc: Global,
     types: &Types,
     configs: &[ConfigEntry],
@@ -95,7 +95,8 @@ fn bare_choices(
     entries: Vec<ChoiceEntry>,
 ) -> Result<Vec<Choice>, AllocError>
     requires { length kinds.now ≡ length entries.items }
-    ensures { IfOk result (λ cs. cs.items ≡ choosing.bare_choices kinds.now entries.items) }
+    ensures choices { IfOk result (λ cs. cs.items ≡ choosing.bare_choices kinds.now entries.items) }
+    ensures count { IfOk result (λ cs. length cs.items ≡ length entries.items) }
 {
     let mut choices = Vec::with_capacity(alloc, entries.len())?;
     for entry in entries {
@@ -130,4 +131,21 @@ fn add_members(choices: &mut Vec<Choice>, symbols: &[Symbol]) -> Result<(), Allo
         add_member(choices, number as u32, symbol.member_of)?;
     }
     Ok(())
+}
+
+/// The choices with these types and the members among the symbols. The only error is want of memory.
+pub fn choices_with(
+    alloc: Global,
+    kinds: &[Kind],
+    entries: Vec<ChoiceEntry>,
+    symbols: &[Symbol],
+) -> Result<Vec<Choice>, AllocError>
+    requires count { length kinds.now ≡ length entries.items }
+    requires there { All (λ s. IfSome s.member_of (λ i. i < length entries.items)) symbols.now }
+    requires fits { length symbols.now < 2 ^ 32 }
+    ensures { IfOk result (λ cs. cs.items ≡ choosing.with_members (choosing.bare_choices kinds.now entries.items) 0 symbols.now) }
+{
+    let mut choices = bare_choices(alloc, kinds, entries)?;
+    add_members(&mut choices, symbols)?;
+    Ok(choices)
 }

@@ -8,10 +8,22 @@
 
 mod bad;
 mod choices;
+mod cycle;
+mod distance;
 mod gather;
+mod graph;
+#[cfg(test)]
+mod graph_tests;
 mod limits;
+mod links;
+mod modules_symbol;
+mod node_references;
+mod numbering;
+mod order;
 mod outers;
 mod place;
+mod tree_graph;
+mod references;
 mod shape;
 mod tree;
 mod types;

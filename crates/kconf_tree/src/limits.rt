@@ -46,9 +46,8 @@ fn past_members(choices: &[Choice]) -> Option<Passed>
     ensures { result ≡ spec.first_past Limit.Members 1024 (map (λ (c : one_choice.Choice). length c.members) choices.now) }
 {
     for choice in choices {
-        let passed = past(Limit::Members, EACH, choice.members.len());
-        if passed.is_some() {
-            return passed;
+        if let Some(passed) = past(Limit::Members, EACH, choice.members.len()) {
+            return Some(passed);
         }
     }
     None
@@ -59,9 +58,8 @@ fn past_defaults(symbols: &[Symbol]) -> Option<Passed>
     ensures { result ≡ spec.first_past Limit.Defaults 1024 (map (λ (s : one_symbol.Symbol). length s.defaults) symbols.now) }
 {
     for symbol in symbols {
-        let passed = past(Limit::Defaults, EACH, symbol.defaults.len());
-        if passed.is_some() {
-            return passed;
+        if let Some(passed) = past(Limit::Defaults, EACH, symbol.defaults.len()) {
+            return Some(passed);
         }
     }
     None

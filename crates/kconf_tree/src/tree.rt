@@ -1,5 +1,11 @@
-ghost use Rattle.std.specs.Prelude.{◌≡◌, ◌<◌, ◌≤◌, ◌^◌, length, slice_index_or, IfSome, []};
+ghost use Rattle.std.specs.Prelude.{◌≡◌, ◌<◌, ◌≤◌, ◌^◌, length, slice_index_or, All, IfSome, []};
+ghost use Rattle.ut_logic.specs.Text.{text_eq};
 ghost use Rattle.kconf_tree.specs.Shape as spec;
+ghost use Rattle.kconf_tree.specs.Apart.{AreApart, names_in};
+
+mod building;
+mod gathering;
+mod ordering;
 
 use crate::shape::{Choice, Symbol};
 use crate::types::Types;
@@ -39,7 +45,9 @@ impl Model for Tree {
 impl Tree {
     /// How many symbols there are.
     pub fn symbols(&self) -> u32
-        ensures { result ≡ length self.now.shape.symbols }
+        ensures count { result ≡ length self.now.shape.symbols }
+        ensures few { length self.now.shape.symbols ≤ 65536 }
+        ensures apart { AreApart text_eq (names_in self.now.shape.symbols) }
     {
         self.symbols.len() as u32
     }
@@ -77,7 +85,8 @@ impl Tree {
     /// The choice that a symbol is a member of, if there is one.
     pub fn member_of(&self, sym: u32) -> Option<u32>
         requires { sym < length self.now.shape.symbols }
-        ensures { result ≡ (spec.symbol_at self.now.shape sym).member_of }
+        ensures value { result ≡ (spec.symbol_at self.now.shape sym).member_of }
+        ensures within { IfSome result (λ i. i < length self.now.shape.choices) }
     {
         self.symbols[sym as usize].member_of
     }
@@ -110,7 +119,8 @@ impl Tree {
 
     /// The number of the modules symbol, if there is one.
     pub fn modules(&self) -> Option<u32>
-        ensures { result ≡ self.now.shape.modules }
+        ensures value { result ≡ self.now.shape.modules }
+        ensures within { IfSome result (λ k. k < length self.now.shape.symbols) }
     {
         self.modules
     }
@@ -173,7 +183,8 @@ impl Tree {
     /// The members of a choice, in order of their numbers.
     pub fn members(&self, choice: u32) -> &[u32]
         requires { choice < length self.now.shape.choices }
-        ensures { result.now ≡ (spec.choice_at self.now.shape choice).members }
+        ensures value { result.now ≡ (spec.choice_at self.now.shape choice).members }
+        ensures within { All (λ k. k < length self.now.shape.symbols) result.now }
     {
         self.choices[choice as usize].members.as_slice()
     }
