@@ -1,12 +1,7 @@
-mod Small
-mod RightLaws
-mod ValueLaws
 mod LimitsSame
-mod OrderLaws
 mod PickLaws
 mod ChoiceLaws
 mod NodeLaws
-mod GraphOrders
 mod PartLaws
 mod Rules
 mod Extremes
@@ -15,3 +10,5 @@ mod Finding
 mod Picked
 mod ValidLaws
 mod Lines
+mod MadeLaws
+mod OrderNodes

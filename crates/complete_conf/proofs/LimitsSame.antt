@@ -16,7 +16,7 @@ use Rattle.kconf_tree.specs.Valid.{calculate, calculated_of, can_be_y}
 use Rattle.kconf_tree.specs.References.{numbers_in, in_conditions, of_default, of_selector, of_type, of_implied, own_references, symbol_references, choice_references, of_choice_default, picked_outside}
 use Rattle.complete_conf.specs.Right.{IsRight}
 use Rattle.complete_conf.specs.Free.{named_by_defaults, free_mode, least_mode}
-use Rattle.complete_conf.proofs.ValueLaws.{Agree, Alike, agree_left, agree_right, value_same, on_same}
+use Rattle.kconf_tree.proofs.ValueLaws.{Agree, Alike, agree_left, agree_right, value_same, on_same}
 
 -- what a symbol refers to, in parts
 abbrev prompts_of : Shape → ℕ → List ℕ

@@ -22,11 +22,11 @@ use Rattle.complete_conf.specs.Free.{is_among, free_mode, picked_of}
 use Rattle.complete_conf.specs.Parts.{Part, Holds, IsClosedPart, IsRightPart, IsKeptBy}
 use Rattle.complete_conf.specs.Completion.{with_value, with_symbol, with_choice, with_node, completed}
 use Rattle.complete_conf.specs.Made.{IsWellMade}
-use Rattle.complete_conf.proofs.Small.{or_left, or_right, or_cases, number_is, number_self, is_off, both_true, and_left, and_right}
-use Rattle.complete_conf.proofs.RightLaws.{setting_from_right}
-use Rattle.complete_conf.proofs.OrderLaws.{among, Ordered, settle_all, completed_right}
+use Rattle.kconf_tree.proofs.Small.{or_left, or_right, or_cases, number_is, number_self, is_off, both_true, and_left, and_right}
+use Rattle.kconf_tree.proofs.RightLaws.{setting_from_right}
+use Rattle.kconf_tree.proofs.OrderLaws.{among, Ordered, settle_all, completed_right}
 use Rattle.complete_conf.proofs.NodeLaws.{settle_node, settle_choice, Keeps, Right, nodes_settle}
-use Rattle.complete_conf.proofs.GraphOrders.{ordered_nodes, node_in_order, any_contains, contains_any, contains_map}
+use Rattle.kconf_tree.proofs.GraphOrders.{ordered_nodes, node_in_order, any_contains, contains_any, contains_map}
 
 -- ---- what is known stays, along any list of nodes
 

@@ -10,7 +10,7 @@ use Rattle.complete_conf.specs.Free.{is_among}
 use Rattle.complete_conf.specs.Inner.{with_picked}
 use Rattle.complete_conf.specs.Made.{IsWellMade}
 use Rattle.complete_conf.specs.Parts.{Part}
-use Rattle.complete_conf.proofs.Small.{or_left, or_right, or_cases, number_is, number_self}
+use Rattle.kconf_tree.proofs.Small.{or_left, or_right, or_cases, number_is, number_self}
 
 any_push : (p : ℕ → Bool) (xs : List ℕ) (x : ℕ) → list_any p (xs ++ x ∷ []) ≡ (list_any p xs || p x)
 any_push p [] x = by (p x)

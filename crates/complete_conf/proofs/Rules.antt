@@ -22,11 +22,11 @@ use Rattle.complete_conf.specs.Free.{is_among}
 use Rattle.complete_conf.specs.Parts.{Part, IsClosedPart, IsRightPart}
 use Rattle.complete_conf.specs.Completion.{completed}
 use Rattle.complete_conf.specs.Made.{IsWellMade}
-use Rattle.complete_conf.proofs.Small.{or_left, or_right, or_cases, number_self}
-use Rattle.complete_conf.proofs.RightLaws.{setting_from_right}
-use Rattle.complete_conf.proofs.OrderLaws.{among, settle_all, completed_right}
+use Rattle.kconf_tree.proofs.Small.{or_left, or_right, or_cases, number_self}
+use Rattle.kconf_tree.proofs.RightLaws.{setting_from_right}
+use Rattle.kconf_tree.proofs.OrderLaws.{among, settle_all, completed_right}
 use Rattle.complete_conf.proofs.NodeLaws.{settle_node, Keeps, Right, nodes_settle}
-use Rattle.complete_conf.proofs.GraphOrders.{ordered_nodes, node_in_order, any_contains, contains_any}
+use Rattle.kconf_tree.proofs.GraphOrders.{ordered_nodes, node_in_order, any_contains, contains_any}
 use Rattle.complete_conf.proofs.PartLaws.{completed_append, without_members, knows, all_steps, closed_nodes, right_nodes, NoNode, empties_right}
 
 -- ---- the nodes of a tree

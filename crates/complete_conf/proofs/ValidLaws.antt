@@ -4,7 +4,7 @@ use Rattle.kconf_tree.specs.Shape.{Shape, is_member}
 use Rattle.kconf_tree.specs.Value.{Configuration}
 use Rattle.kconf_tree.specs.Valid.{is_right_choice, KeepsRules, IsValid}
 use Rattle.complete_conf.specs.Right.{IsRight}
-use Rattle.complete_conf.proofs.RightLaws.{setting_from_right}
+use Rattle.kconf_tree.proofs.RightLaws.{setting_from_right}
 
 module _ (t : Shape) (c : Configuration) where
   pub valid_from : ((name : List ℕ) → c.undeclared name ≡ false) → ((k : ℕ) → k < length t.symbols → is_member t k ≡ false → IsRight t c k) → ((i : ℕ) → i < length t.choices → is_right_choice t c i ≡ true) → IsValid t c

@@ -18,6 +18,8 @@ mod laws;
 mod limits;
 mod outer_truths;
 mod selecting;
+#[cfg(test)]
+mod tests;
 mod texts;
 mod validity;
 mod values;
@@ -25,6 +27,6 @@ mod values;
 pub use completing::complete;
 pub use config::{Config, Known};
 pub use free_values::calc;
-pub use laws::part_is_completed;
+pub use laws::{built_is_arranged, part_is_completed};
 pub use texts::config_text;
 pub use validity::is_valid;

@@ -1,13 +1,13 @@
 mod ExprLaws
 mod Steps
-mod Places
+pub mod Places
 mod Groups
 mod TypeLaws
 mod SymbolLaws
 mod ChoiceLaws
 mod NameLaws
 mod TreeLaws
-mod Bounds
+pub mod Bounds
 mod GraphLaws
 mod WalkLaws
 mod StepLaws
@@ -16,3 +16,8 @@ mod ReturnLaws
 mod LinkLaws
 mod GraphOf
 mod BuildLaws
+pub mod Small
+pub mod ValueLaws
+pub mod RightLaws
+pub mod OrderLaws
+pub mod GraphOrders

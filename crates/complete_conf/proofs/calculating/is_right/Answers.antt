@@ -3,7 +3,7 @@ use Rattle.ut_logic.specs.Trit.{rank}
 use Rattle.complete_conf.specs.Config.{configuration_of}
 use Rattle.complete_conf.specs.Right.{is_settled, is_right}
 use Rattle.complete_conf.proofs.Extremes.{rank_small}
-use Rattle.complete_conf.proofs.RightLaws.{right_by_test, test_by_right}
+use Rattle.kconf_tree.proofs.RightLaws.{right_by_test, test_by_right}
 use Rattle.complete_conf.proofs.calculating.is_right.Goals as goal
 
 pub returns : goal.returns

@@ -12,4 +12,4 @@ returns-in-Some c = let t = c.args.tree.now.shape in let conf = configuration_of
 
 pub returns-in-None : goal.returns-in-None
 returns-in-None c = let t = c.args.tree.now.shape in let conf = configuration_of c.args.config.now in let i = c.args.choice in
-    c.member_candidate.ensures ∙ (ap (find (is_candidate t conf i)) c.members.ensures ∙ sym (find_behind (is_candidate t conf i) (named_by_defaults t conf (choice_at t i).defaults) (choice_at t i).members (ap (λ ds. find (is_candidate t conf i) (named_by_defaults t conf ds)) (sym c.choice_defaults.ensures) ∙ sym c.in-None.ensures)))
+    c.member_candidate.ensures ∙ (ap (find (is_candidate t conf i)) c.members.ensures.value ∙ sym (find_behind (is_candidate t conf i) (named_by_defaults t conf (choice_at t i).defaults) (choice_at t i).members (ap (λ ds. find (is_candidate t conf i) (named_by_defaults t conf ds)) (sym c.choice_defaults.ensures) ∙ sym c.in-None.ensures)))

@@ -13,8 +13,8 @@ use Rattle.kconf_tree.specs.References.{node_of, references_of}
 use Rattle.kconf_tree.specs.Graph.{refers_of, IsInOrder, IsOrder as IsGraphOrder}
 use Rattle.kconf_tree.specs.Gathered.{distinct}
 use Rattle.kconf_tree.specs.Orders.{nodes_of, place_of, node_at, graph_of}
-use Rattle.complete_conf.proofs.Small.{or_left, or_right, or_cases, is_off}
-use Rattle.complete_conf.proofs.OrderLaws.{among, Within, Ordered}
+use Rattle.kconf_tree.proofs.Small.{or_left, or_right, or_cases, is_off}
+use Rattle.kconf_tree.proofs.OrderLaws.{among, Within, Ordered}
 
 -- ---- lists
 

@@ -2,7 +2,7 @@
 -- makes it right is left open here.
 use Rattle.std.proofs.Common.{◌≡◌, ℕ, Bool, true, false, ◌||◌, cond, List, [], ◌∷◌, refl, ap, sym, ◌∙◌, subst, arith, rules}
 use Rattle.std.specs.List.{list_any}
-use Rattle.complete_conf.proofs.Small.{or_left, or_right}
+use Rattle.kconf_tree.proofs.Small.{or_left, or_right}
 
 module _ {N : Type 0} (eq : N → N → Bool) where
   -- one of the list is this one
