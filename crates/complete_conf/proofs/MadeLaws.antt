@@ -114,7 +114,7 @@ module _ (e : Entries) where
         let there : i < length e.choices = subst (λ (o : Option ℕ). IfSome o (λ k. k < length e.choices)) h below in
         let plain : 0 + j ≡ j = omega arith in
         subst (λ (ms : List ℕ). is_among ms j ≡ true) (sym (members_here i there))
-            (subst (λ (k : ℕ). is_among (places_from 0 (is_member_of i) (symbols_of e.configs)) k ≡ true) plain (places_have (is_member_of i) 0 j (symbols_of e.configs) lt (ap (λ (o : Option ℕ). is_the o i) h ∙ number_self i)))
+        (subst (λ (k : ℕ). is_among (places_from 0 (is_member_of i) (symbols_of e.configs)) k ≡ true) plain (places_have (is_member_of i) 0 j (symbols_of e.configs) lt (ap (λ (o : Option ℕ). is_the o i) h ∙ number_self i)))
     | inr ge ↦ absurd (let none : None ≡ Some i = sym (ap (λ (s : Symbol). s.member_of) (behind (symbols_of e.configs) j ge)) ∙ h in cc)
   ]
 

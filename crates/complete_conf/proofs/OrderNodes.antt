@@ -1,5 +1,5 @@
 -- The nodes of a tree's order are its own.
-use Rattle.std.proofs.Common.{◌≡◌, ℕ, zero, suc, ◌+◌, ◌<◌, ◌≤◌, ◌==◌, Bool, true, false, cond, Option, None, Some, List, [], ◌∷◌, ◌++◌, length, map, get_or, refl, ap, sym, subst, ◌∙◌, arith, rules, ◌⊎◌, inl, inr}
+use Rattle.std.proofs.Common.{◌≡◌, ℕ, zero, suc, ◌+◌, ◌<◌, ◌≤◌, ◌==◌, Bool, true, false, not, cond, Option, None, Some, List, [], ◌∷◌, ◌++◌, length, map, get_or, refl, ap, sym, subst, ◌∙◌, arith, rules, ◌⊎◌, inl, inr}
 use Rattle.std.proofs.lemmas.Bool.{false≢true, cases_lt}
 use Rattle.std.specs.List.{list_any, flat_map, range_with_len, All}
 use Rattle.std.proofs.lemmas.List.Elements.{All-nil, All-cons, All-head, All-tail, All-append, All-map, All-get_or, All-weaker, All-filter}
@@ -28,7 +28,7 @@ range_below a (suc n) m l = All-cons (λ k. k < m) a (range_with_len (a + 1) n) 
 
 distinct_all : (P : Node → Type 0) (xs : List Node) → All P xs → All P (distinct node_eq xs)
 distinct_all P [] h = All-nil P
-distinct_all P (x ∷ xs) h = All-cons P x _ (All-head P x xs h) (All-filter (λ y. cond (node_eq x y) false true) P (distinct node_eq xs) (distinct_all P xs (All-tail P x xs h)))
+distinct_all P (x ∷ xs) h = All-cons P x _ (All-head P x xs h) (All-filter (λ y. not (node_eq x y)) P (distinct node_eq xs) (distinct_all P xs (All-tail P x xs h)))
 
 all_among : (P : ℕ → Type 0) (ms : List ℕ) → ((j : ℕ) → is_among ms j ≡ true → P j) → All P ms
 all_among P [] h = All-nil P

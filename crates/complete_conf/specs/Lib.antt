@@ -6,6 +6,5 @@ pub mod Parts
 pub mod Completion
 pub mod Made
 pub mod Text
-
 -- the words of inner functions
 pub mod Inner

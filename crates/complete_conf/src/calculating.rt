@@ -17,13 +17,7 @@ fn promoted(counts: Counts, on: bool, value: Trit) -> Trit
     ensures { rank result ≡ spec.promoted counts on (rank value) }
 {
     match counts {
-        Counts::Bool => {
-            if value == Trit::N {
-                Trit::N
-            } else {
-                Trit::Y
-            }
-        }
+        Counts::Bool => { if value == Trit::N { Trit::N } else { Trit::Y } }
         Counts::Tristate => {
             if on || value == Trit::N {
                 value
@@ -40,10 +34,7 @@ pub fn calculated(tree: &Tree, config: &Config, sym: u32) -> Trit
     requires { sym < length tree.now.shape.symbols }
     ensures { rank result ≡ spec.calculated_of tree.now.shape (configuration_of config.now) None sym }
 {
-    let raised = trit_or(
-        default_value(tree, config, sym),
-        reverse(tree, config, sym),
-    );
+    let raised = trit_or(default_value(tree, config, sym), reverse(tree, config, sym));
     promoted(counts_as(tree, sym), has_modules(tree, config), raised)
 }
 

@@ -50,12 +50,7 @@ fn is_candidate(tree: &Tree, config: &Config, choice: u32, sym: u32) -> bool
 }
 
 /// The first candidate that a default names whose condition isn't n.
-fn named_candidate(
-    tree: &Tree,
-    config: &Config,
-    choice: u32,
-    defaults: &[SelectOf],
-) -> Option<u32>
+fn named_candidate(tree: &Tree, config: &Config, choice: u32, defaults: &[SelectOf]) -> Option<u32>
     ensures { result ≡ find (spec.is_candidate tree.now.shape (configuration_of config.now) choice) (spec.named_by_defaults tree.now.shape (configuration_of config.now) defaults.now) }
 {
     for default in defaults {

@@ -32,10 +32,7 @@ fn first_default(tree: &Tree, config: &Config, defaults: &[DefaultOf]) -> Trit
     for default in defaults {
         let cond = value_in(tree, config, Place::Condition, &default.cond);
         if cond != Trit::N {
-            return trit_and(
-                value_in(tree, config, Place::Value, &default.value),
-                cond,
-            );
+            return trit_and(value_in(tree, config, Place::Value, &default.value), cond);
         }
     }
     Trit::N

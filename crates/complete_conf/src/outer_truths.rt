@@ -64,12 +64,7 @@ fn after_side<'a>(text: &'a [u8], side: &Side) -> Option<&'a [u8]>
 }
 
 /// What stands behind a comparison at the start.
-fn after_comparison<'a>(
-    text: &'a [u8],
-    left: &Side,
-    sign: Sign,
-    right: &Side,
-) -> Option<&'a [u8]>
+fn after_comparison<'a>(text: &'a [u8], left: &Side, sign: Sign, right: &Side) -> Option<&'a [u8]>
     ensures { MatchOption result ((rest : List ℕ) → text.now ≢ spec.comparison_text left.now sign right.now ++ rest) (λ rest. text.now ≡ spec.comparison_text left.now sign right.now ++ rest.now) }
 {
     let rest = after_side(text, left)?;
@@ -131,13 +126,7 @@ pub fn outer_value(tree: &Tree, config: &Config, text: &str) -> Trit
 }
 
 /// The value of a comparison that is an outer condition.
-pub fn comparison_value(
-    tree: &Tree,
-    config: &Config,
-    left: &Side,
-    sign: Sign,
-    right: &Side,
-) -> Trit
+pub fn comparison_value(tree: &Tree, config: &Config, left: &Side, sign: Sign, right: &Side) -> Trit
     ensures { rank result ≡ spec.outer_value tree.now.shape (configuration_of config.now) (spec.comparison_text left.now sign right.now) }
 {
     truth(config, comparison_number(tree, left, sign, right))

@@ -1,7 +1,5 @@
 use crate::{Config, Known, calc, complete, config_text, is_valid};
-use kconf_parse::{
-    ChoiceEntry, ConfigEntry, DefaultOf, Entries, Expr, Kind, SelectOf, Side, Sign,
-};
+use kconf_parse::{ChoiceEntry, ConfigEntry, DefaultOf, Entries, Expr, Kind, SelectOf, Side, Sign};
 use kconf_tree::Tree;
 use sqlite_items::{Boxed, Items};
 use std::alloc::Global;
@@ -38,12 +36,20 @@ fn expr(alloc: Global, text: &str) -> Result<Expr, Fail> {
     if let Some((left, right)) = text.split_once("!=") {
         let left = side(alloc, left)?;
         let right = side(alloc, right)?;
-        return Ok(Expr::Compare { left, sign: Sign::Differ, right });
+        return Ok(Expr::Compare {
+            left,
+            sign: Sign::Differ,
+            right,
+        });
     }
     if let Some((left, right)) = text.split_once("=") {
         let left = side(alloc, left)?;
         let right = side(alloc, right)?;
-        return Ok(Expr::Compare { left, sign: Sign::Same, right });
+        return Ok(Expr::Compare {
+            left,
+            sign: Sign::Same,
+            right,
+        });
     }
     if let Some((left, right)) = text.split_once("&") {
         let mut parts = Items::new(alloc);
@@ -91,7 +97,11 @@ fn config(alloc: Global, text: &str) -> Result<ConfigEntry, Fail> {
             let (value, cond) = default.split_once(":").ok_or("a condition")?;
             let value = expr(alloc, value)?;
             let cond = expr(alloc, cond)?;
-            defaults.push(DefaultOf { value, cond, text: None })?;
+            defaults.push(DefaultOf {
+                value,
+                cond,
+                text: None,
+            })?;
         } else if let Some(select) = property.strip_prefix("s:") {
             let (target, cond) = select.split_once(":").ok_or("a condition")?;
             let target = Text::new(alloc, target)?;
@@ -199,10 +209,15 @@ fn config_of(alloc: Global, values: &str, modes: &str, outers: &str) -> Result<C
 }
 
 const K1: &str = "A bool p:y;B bool p:A";
+
 const SELECT: &str = "C bool p:y;B bool p:C;A bool p:y s:B:y";
+
 const MODULES: &str = "M bool p:y modules;A tristate p:y;B bool p:A d:y:A";
+
 const CHOICE: &str = "X bool c:0 p:y;Y bool c:0 p:y/p:y";
+
 const OPTIONAL: &str = "X bool c:0 p:y;Y bool c:0 p:y/optional p:y";
+
 const HIDDEN: &str = "A bool p:y;X bool c:0 p:A;Y bool c:0 p:y/p:y";
 
 #[test]
@@ -270,7 +285,10 @@ fn validity_by_hand(rt: HostRuntime) -> Result<(), Fail> {
     for (text, values, modes, outers, valid) in rows {
         let tree = tree(alloc, text)?;
         let config = config_of(alloc, values, modes, outers)?;
-        assert!(rt; is_valid(&tree, &config) == valid, "{text} {values} {modes}");
+        assert!(rt;
+            is_valid(&tree, &config) == valid,
+            "{text} {values} {modes}"
+        );
     }
     Ok(())
 }
@@ -280,11 +298,47 @@ fn completion_by_hand(rt: HostRuntime) -> Result<(), Fail> {
     let alloc = rt.alloc();
     let rows = [
         // what is known stays, the rest gets its default, or n
-        ("A bool p:y;B bool p:A;Z bool d:y:y", "yyn", "110", "", "", "", "yyy", ""),
-        ("A bool p:y;B bool p:A;Z bool d:y:y", "nnn", "110", "", "", "", "nny", ""),
-        ("A bool p:y;B bool p:A;Z bool d:y:y", "yyn", "000", "", "", "", "nny", ""),
+        (
+            "A bool p:y;B bool p:A;Z bool d:y:y",
+            "yyn",
+            "110",
+            "",
+            "",
+            "",
+            "yyy",
+            "",
+        ),
+        (
+            "A bool p:y;B bool p:A;Z bool d:y:y",
+            "nnn",
+            "110",
+            "",
+            "",
+            "",
+            "nny",
+            "",
+        ),
+        (
+            "A bool p:y;B bool p:A;Z bool d:y:y",
+            "yyn",
+            "000",
+            "",
+            "",
+            "",
+            "nny",
+            "",
+        ),
         // a select raises what isn't known, and it comes after its selectors
-        ("B tristate;A bool p:y s:B:y", "ny", "01", "", "", "", "yy", ""),
+        (
+            "B tristate;A bool p:y s:B:y",
+            "ny",
+            "01",
+            "",
+            "",
+            "",
+            "yy",
+            "",
+        ),
         // a bool has no m
         (MODULES, "ymn", "110", "", "", "", "ymy", ""),
         // a choice: the first member, or the first default that can be, or none
@@ -292,9 +346,36 @@ fn completion_by_hand(rt: HostRuntime) -> Result<(), Fail> {
         (CHOICE, "ny", "11", "y", "1", "", "ny", "y"),
         (OPTIONAL, "yn", "00", "y", "0", "", "nn", "n"),
         (HIDDEN, "nnn", "000", "n", "0", "", "nny", "y"),
-        ("X bool c:0 p:y;Y bool c:0 p:y/p:y d:Y:y", "nn", "00", "n", "0", "", "ny", "y"),
-        ("X bool c:0 p:y;Y bool c:0 p:n/p:y d:Y:y", "nn", "00", "n", "0", "", "yn", "y"),
-        ("X bool c:0 p:y;Y bool c:0 p:y/p:y d:Y:n", "nn", "00", "n", "0", "", "yn", "y"),
+        (
+            "X bool c:0 p:y;Y bool c:0 p:y/p:y d:Y:y",
+            "nn",
+            "00",
+            "n",
+            "0",
+            "",
+            "ny",
+            "y",
+        ),
+        (
+            "X bool c:0 p:y;Y bool c:0 p:n/p:y d:Y:y",
+            "nn",
+            "00",
+            "n",
+            "0",
+            "",
+            "yn",
+            "y",
+        ),
+        (
+            "X bool c:0 p:y;Y bool c:0 p:y/p:y d:Y:n",
+            "nn",
+            "00",
+            "n",
+            "0",
+            "",
+            "yn",
+            "y",
+        ),
     ];
     for (text, values, syms, modes, choices, outers, completed, new_modes) in rows {
         let tree = tree(alloc, text)?;
@@ -306,7 +387,10 @@ fn completion_by_hand(rt: HostRuntime) -> Result<(), Fail> {
         complete(&tree, &mut config, &known);
         let values = letters(alloc, config.values.as_slice())?;
         let modes = letters(alloc, config.modes.as_slice())?;
-        assert!(rt; values.as_str() == completed, "{text}: {values} {completed}");
+        assert!(rt;
+            values.as_str() == completed,
+            "{text}: {values} {completed}"
+        );
         assert!(rt; modes.as_str() == new_modes, "{text}: {modes} {new_modes}");
     }
     Ok(())
@@ -315,17 +399,34 @@ fn completion_by_hand(rt: HostRuntime) -> Result<(), Fail> {
 #[test]
 fn one_value_and_a_text(rt: HostRuntime) -> Result<(), Fail> {
     let alloc = rt.alloc();
-    let built = tree(alloc, MODULES)?;
+    let built = tree(alloc, "M bool p:y modules;A tristate p:y;B bool d:y:A")?;
     let config = config_of(alloc, "ymn", "", "")?;
-    assert!(rt; calc(&built, &config, 2) == Trit::Y, "a default of m is y for a bool");
-    let text = config_text(alloc, &built, &config)?;
-    assert!(rt; text.as_slice() == b"CONFIG_M=y\nCONFIG_A=m\n# CONFIG_B is not set\n", "the lines");
+    assert!(rt;
+        calc(&built, &config, 2) == Trit::Y,
+        "a default of m is y for a bool"
+    );
     let built = tree(alloc, CHOICE)?;
     let config = config_of(alloc, "ny", "y", "")?;
     assert!(rt; calc(&built, &config, 0) == Trit::Y, "the first member");
-    let built = tree(alloc, "A bool p:y;I int;B bool p:A")?;
-    let config = config_of(alloc, "ynn", "", "")?;
-    let text = config_text(alloc, &built, &config)?;
-    assert!(rt; text.as_slice() == b"CONFIG_A=y\n# CONFIG_B is not set\n", "no line for a number");
+    assert!(rt; calc(&built, &config, 1) == Trit::N, "the other member");
+    let rows = [
+        (K1, "yn", "CONFIG_A=y\n# CONFIG_B is not set\n"),
+        (
+            "A bool p:y;I int;B bool p:A",
+            "nny",
+            "# CONFIG_A is not set\nCONFIG_B=y\n",
+        ),
+        (
+            MODULES,
+            "ymn",
+            "CONFIG_M=y\nCONFIG_A=m\n# CONFIG_B is not set\n",
+        ),
+    ];
+    for (text, values, lines) in rows {
+        let tree = tree(alloc, text)?;
+        let config = config_of(alloc, values, "", "")?;
+        let text = config_text(alloc, &tree, &config)?;
+        assert!(rt; text.as_slice() == lines.as_bytes(), "{lines}");
+    }
     Ok(())
 }

@@ -30,12 +30,7 @@ fn push_value(text: &mut Vec<u8>, name: &str, value: Trit) -> Result<(), AllocEr
 }
 
 /// Writes the line of a symbol, if it has one.
-fn push_symbol(
-    text: &mut Vec<u8>,
-    tree: &Tree,
-    config: &Config,
-    sym: u32,
-) -> Result<(), AllocError>
+fn push_symbol(text: &mut Vec<u8>, tree: &Tree, config: &Config, sym: u32) -> Result<(), AllocError>
     requires sym { sym < length tree.now.shape.symbols }
     ensures { OnOk result (text.new.items ≡ text.old.items ++ spec.symbol_line tree.now.shape (configuration_of config.now) sym) }
 {

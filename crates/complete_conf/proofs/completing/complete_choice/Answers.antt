@@ -14,4 +14,4 @@ returns-clause-value c = λ made. let t = c.args.tree.now.shape in let conf = co
     let pick : c.picked_in-picked.result ≡ picked_of t conf i = c.picked_in-picked.ensures ∙ ap (λ m. picked_at m (candidate_of t conf i)) c.free_mode-mode.ensures in
     let ms : c.members.result.now ≡ (choice_at t i).members = c.members.ensures.value in
     c.complete_members.ensures.value (λ j h. subst (λ (n : ℕ). j < n) (sym (c.complete_mode.ensures.lengths.values ∙ c.requires.fits.values)) (member_within t made i j (subst (λ (xs : List ℕ). is_among xs j ≡ true) ms h)))
-        ∙ (λ z. with_picked p (first z) (pick z) (ms z))
+    ∙ (λ z. with_picked p (first z) (pick z) (ms z))

@@ -12,4 +12,4 @@ loop-by-preserved c = let t = c.args.tree.now.shape in let f = selected_by t (co
     let l : c.loop-by.by < length t.symbols = omega arith in
     let raised : rank c.raised_by.result ≡ greatest (map f (selects_at name c.loop-by.by (symbol_at t c.loop-by.by).selects)) = c.raised_by.ensures ∙ (λ i. greatest (map f (selects_at (c.name-name.ensures i) c.loop-by.by (c.selects.ensures i)))) in
     raised_more f name t.symbols c.loop-by.by _ (rank c.loop-by.greatest) (rank c.raised_by.result) l c.loop-by.invariant raised
-        ∙ ap (λ m. max m (greatest (map f (selects_from name (c.loop-by.by + 1) (drop (c.loop-by.by + 1) t.symbols))))) (sym c.trit_or-greatest.ensures)
+    ∙ ap (λ m. max m (greatest (map f (selects_from name (c.loop-by.by + 1) (drop (c.loop-by.by + 1) t.symbols))))) (sym c.trit_or-greatest.ensures)
