@@ -1,0 +1,14 @@
+mod LimitsSame
+mod PickLaws
+mod ChoiceLaws
+mod NodeLaws
+mod PartLaws
+mod Rules
+mod Extremes
+mod Words
+mod Finding
+mod Picked
+mod ValidLaws
+mod Lines
+mod MadeLaws
+mod OrderNodes

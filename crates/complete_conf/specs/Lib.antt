@@ -1,0 +1,10 @@
+-- what public contracts rest on
+pub mod Config
+pub mod Right
+pub mod Free
+pub mod Parts
+pub mod Completion
+pub mod Made
+pub mod Text
+-- the words of inner functions
+pub mod Inner

@@ -1,0 +1,24 @@
+ghost use Rattle.std.specs.Prelude.{◌≡◌, ℕ, List};
+ghost use Rattle.ut_logic.specs.declared.node.Node.{Node};
+ghost use Rattle.kconf_parse.specs.declared.entries.Entries.{Entries as AllEntries};
+ghost use Rattle.kconf_tree.specs.Arranged.{Arranged};
+ghost use Rattle.kconf_tree.specs.Built.{HaveChoices, IsTreeOf};
+ghost use Rattle.kconf_tree.specs.Orders.{IsOrder};
+ghost use Rattle.kconf_tree.specs.Shape.{Shape};
+ghost use Rattle.kconf_tree.specs.Valid.{KeepsRules};
+ghost use Rattle.kconf_tree.specs.Value.{Configuration};
+ghost use Rattle.complete_conf.specs.Made.{IsArranged, IsWellMade};
+ghost use Rattle.complete_conf.specs.Parts.{IsClosedPart, IsKeptBy, IsRightPart, Part};
+
+/// Law: however undeclared names are read, a part that is closed under references, and each node of which
+/// is right, is kept by some configuration that keeps the rules and reads them so.
+pub fn part_is_completed()
+    ensures { (t : Shape) (order : List Node) (p : Part) (c : Configuration) →
+        IsWellMade t → IsOrder t order → IsClosedPart t p → IsRightPart t c p →
+        (d : Configuration) × KeepsRules t d × IsKeptBy p c d × ((name : List ℕ) → d.undeclared name ≡ c.undeclared name) }
+{}
+
+/// Law: what is built from entries is arranged.
+pub fn built_is_arranged()
+    ensures { (e : AllEntries) (t : Arranged) → HaveChoices e → IsTreeOf e t → IsArranged t }
+{}
