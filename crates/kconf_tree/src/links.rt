@@ -93,7 +93,7 @@ impl Tree {
     }
 
     /// For each symbol, those that select or imply it, each with what the condition asks for.
-    pub fn linked(&self, alloc: Global, link: Link) -> Result<Vec<Items<u32>>, AllocError>
+    pub(crate) fn linked(&self, alloc: Global, link: Link) -> Result<Vec<Items<u32>>, AllocError>
         ensures rows { IfOk result (λ rows. rows.items ≡ linked_all self.now.shape link 0 (replicate (length self.now.shape.symbols) []) self.now.shape.symbols) }
         ensures count { IfOk result (λ rows. length rows.items ≡ length self.now.shape.symbols) }
         ensures within { IfOk result (λ rows. All (λ row. All (λ k. k < length self.now.shape.symbols) row) rows.items) }
@@ -106,7 +106,7 @@ impl Tree {
     }
 
     /// What the selects and implies of all symbols bring in. The only error is want of memory.
-    pub fn links(&self, alloc: Global) -> Result<Links, AllocError>
+    pub(crate) fn links(&self, alloc: Global) -> Result<Links, AllocError>
         requires { AreApart text_eq (names_in self.now.shape.symbols) }
         ensures { IfOk result (AreLinks self.now.shape) }
     {

@@ -134,7 +134,7 @@ impl Tree {
     }
 
     /// Adds the references of a symbol that is no member.
-    pub fn mention_symbol(
+    pub(crate) fn mention_symbol(
         &self,
         sym: u32,
         links: &Links,
@@ -212,7 +212,7 @@ impl Tree {
     }
 
     /// Adds the references of a choice with its members.
-    pub fn mention_choice(
+    pub(crate) fn mention_choice(
         &self,
         choice: u32,
         links: &Links,

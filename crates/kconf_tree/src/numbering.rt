@@ -33,7 +33,7 @@ pub fn place(nodes: &IndexSet<Node>, node: Node) -> usize
 
 impl Tree {
     /// The node of a symbol.
-    pub fn node_of(&self, sym: u32) -> Node
+    pub(crate) fn node_of(&self, sym: u32) -> Node
         requires { sym < length self.now.shape.symbols }
         ensures { result ≡ spec.node_of self.now.shape sym }
     {
@@ -81,7 +81,7 @@ impl Tree {
     }
 
     /// The nodes in order with their lists. The only error is want of memory.
-    pub fn node_lists(&self, alloc: Global, links: &Links) -> Result<NodeLists, AllocError>
+    pub(crate) fn node_lists(&self, alloc: Global, links: &Links) -> Result<NodeLists, AllocError>
         requires { AreLinks self.now.shape links.now }
         ensures nodes { IfOk result (λ f. f.nodes.keys ≡ nodes_of self.now.shape) }
         ensures lists { IfOk result (λ f. f.lists.items ≡ lists_of self.now.shape (nodes_of self.now.shape)) }

@@ -101,7 +101,7 @@ impl Tree {
 
     /// Adds the symbols that an expression asks for, in order.
     #[cycle(mention)]
-    pub fn mention(&self, place: Place, e: &Expr, row: &mut Items<u32>) -> Result<(), AllocError>
+    pub(crate) fn mention(&self, place: Place, e: &Expr, row: &mut Items<u32>) -> Result<(), AllocError>
         requires { All (λ k. k < length self.now.shape.symbols) row.old }
         ensures row { OnOk result (row.new ≡ row.old ++ spec.numbers_in self.now.shape place e.now) }
         ensures within { OnOk result (All (λ k. k < length self.now.shape.symbols) row.new) }
@@ -119,7 +119,7 @@ impl Tree {
 
     /// Adds those that each expression asks for.
     #[cycle(mention)]
-    pub fn mention_each(
+    pub(crate) fn mention_each(
         &self,
         place: Place,
         list: &[Expr],
@@ -136,7 +136,7 @@ impl Tree {
     }
 
     /// Adds those that defaults ask for.
-    pub fn mention_defaults(
+    pub(crate) fn mention_defaults(
         &self,
         defaults: &[DefaultOf],
         row: &mut Items<u32>,

@@ -47,7 +47,7 @@ impl Tree {
     }
 
     /// The graph of the nodes. The only error is want of memory.
-    pub fn graph(&self, alloc: Global, found: &NodeLists) -> Result<Graph, AllocError>
+    pub(crate) fn graph(&self, alloc: Global, found: &NodeLists) -> Result<Graph, AllocError>
         requires nodes { found.now.nodes.keys ≡ nodes_of self.now.shape }
         requires lists { found.now.lists.items ≡ lists_of self.now.shape (nodes_of self.now.shape) }
         requires within { AreRowsBelow (length self.now.shape.symbols) found.now.lists.items }

@@ -106,7 +106,7 @@ impl Tree {
     }
 
     /// An order in which each symbol and choice stands after all that it refers to, or the first cycle.
-    pub fn find_order(&self, alloc: Global) -> Result<Vec<Node>, TreeBad>
+    pub(crate) fn find_order(&self, alloc: Global) -> Result<Vec<Node>, TreeBad>
         ensures order { IfOk result (λ order. IsOrder self.now.shape order.items) }
         ensures cycle { IfErr result (IsRecursive self.now.shape) }
     {
