@@ -1,5 +1,5 @@
 -- The choices get their types and members.
-use Rattle.std.proofs.Common.{◌≡◌, ◌≢◌, ℕ, zero, suc, ◌+◌, ◌<◌, Bool, true, false, not, ◌&&◌, ◌||◌, ◌==◌, cond, eqb, Option, None, Some, List, [], ◌∷◌, ◌++◌, length, map, filter, get_or, set, drop, refl, ap, sym, subst, ◌∙◌, arith, get_or-set_same, get_or-set_other}
+use Rattle.std.proofs.Common.{◌≡◌, ◌≢◌, ℕ, zero, suc, ◌+◌, ◌<◌, Bool, true, false, not, ◌&&◌, ◌||◌, cond, eqb, Option, None, Some, List, [], ◌∷◌, ◌++◌, length, map, filter, get_or, set, drop, refl, ap, sym, subst, ◌∙◌, arith, get_or-set_same, get_or-set_other}
 use Rattle.std.proofs.lemmas.Bool.{false≢true, eqb-true, eqb-false}
 use Rattle.std.proofs.lemmas.List.{length-set, drop_more, append-nil, append_assoc, ext_get_or, length-map}
 use Rattle.std.specs.List.{list_any, position_or_len}
@@ -11,10 +11,10 @@ use Rattle.kconf_parse.specs.declared.entries.ChoiceEntry.{ChoiceEntry}
 use Rattle.kconf_tree.specs.declared.shape.Symbol.{Symbol}
 use Rattle.kconf_tree.specs.declared.shape.Choice.{Choice}
 use Rattle.kconf_tree.specs.declared.types.Declared.{Declared}
-use Rattle.kconf_tree.specs.Shape.{no_choice, number_of, is_the}
+use Rattle.kconf_tree.specs.Shape.{no_choice, is_the}
 use Rattle.kconf_tree.specs.Value.{is_text_or_number}
 use Rattle.kconf_tree.specs.Gathered.{entries_named, first_kind, is_untyped, is_member_of, places_from, types_choice, first_typed, choice_kind, choice_of, choices_from, symbols_of}
-use Rattle.kconf_tree.specs.Types.{declared_by, names_of, types_of, typed, declared_at}
+use Rattle.kconf_tree.specs.Types.{declared_by, names_of, types_of}
 use Rattle.kconf_tree.specs.Choosing.{is_type_line, has_type_line, typed_at, typed_by, typed_by_all, else_bool, bare_choice, bare_choices, with_one, with_member, with_members}
 use Rattle.kconf_tree.proofs.Places.{position_found}
 use Rattle.kconf_tree.proofs.SymbolLaws.{number_named, named_among}

@@ -1,8 +1,8 @@
 -- The entries of each name, as one more entry comes.
-use Rattle.std.proofs.Common.{◌≡◌, ℕ, zero, suc, ◌+◌, ◌<◌, ◌≤◌, Bool, true, false, not, ◌&&◌, ◌||◌, cond, Option, None, Some, List, [], ◌∷◌, ◌++◌, length, map, filter, get_or, set, refl, ap, sym, subst, ◌∙◌, arith}
+use Rattle.std.proofs.Common.{◌≡◌, ℕ, Bool, true, false, ◌||◌, cond, None, Some, List, [], ◌∷◌, ◌++◌, map, refl, ap, sym, subst, ◌∙◌}
 use Rattle.std.proofs.lemmas.Bool.{false≢true}
 use Rattle.std.proofs.lemmas.List.{map-append}
-use Rattle.std.specs.List.{list_any, position_or_len}
+use Rattle.std.specs.List.{list_any}
 use Rattle.std.specs.Map.{lookup}
 use Rattle.indexmap.specs.IndexMap.{insert_entry}
 use Rattle.indexmap.specs.IndexSet.{insert_key}
@@ -11,7 +11,7 @@ use Rattle.kconf_parse.specs.declared.entries.ConfigEntry.{ConfigEntry}
 use Rattle.kconf_tree.specs.Gathered.{entries_named, once}
 use Rattle.kconf_tree.specs.Types.{names_of}
 use Rattle.kconf_tree.specs.Apart.{AreApart}
-use Rattle.kconf_tree.proofs.Places.{filter_push, distinct_apart, distinct_has, distinct_push}
+use Rattle.kconf_tree.proofs.Places.{filter_push, distinct_apart, distinct_push}
 
 -- names that are once are apart, and one more comes last
 pub names_apart : (es : List ConfigEntry) → AreApart text_eq (names_of es)

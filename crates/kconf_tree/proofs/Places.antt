@@ -1,9 +1,8 @@
 -- Where the first element that passes a test stands, and lists with each element once.
-use Rattle.std.proofs.Common.{◌≡◌, ℕ, zero, suc, ◌+◌, ◌<◌, ◌≤◌, Bool, true, false, not, ◌&&◌, ◌||◌, cond, ltb, nat_lt, Option, None, Some, List, [], ◌∷◌, ◌++◌, length, map, filter, position, get_or, slice_get, set, refl, ap, sym, subst, ◌∙◌, arith}
+use Rattle.std.proofs.Common.{◌≡◌, ℕ, zero, suc, ◌+◌, ◌<◌, ◌≤◌, Bool, true, false, not, ◌||◌, cond, ltb, nat_lt, None, Some, List, [], ◌∷◌, ◌++◌, length, map, filter, position, get_or, slice_get, refl, ap, sym, ◌∙◌, arith}
 use Rattle.std.proofs.lemmas.Bool.{false≢true, lt-ltb, ltb-false}
-
 use Rattle.std.specs.Cmp.{IsEquivalence}
-use Rattle.std.specs.List.{list_any, position_or_len, prefix_len}
+use Rattle.std.specs.List.{list_any, position_or_len}
 use Rattle.indexmap.specs.IndexSet.{insert_key}
 use Rattle.kconf_tree.specs.Gathered.{distinct}
 use Rattle.kconf_tree.specs.Apart.{AreApart}
@@ -25,7 +24,6 @@ pub same_position : {A : Type 0} (p q : A → Bool) (xs : List A) → ((x : A) �
 same_position p q xs e i = position (λ x. e x i) xs
 
 -- ---- each once
-
 
 -- a filter keeps or drops one more
 pub filter_push : {A : Type 0} (p : A → Bool) (xs : List A) (x : A) → filter p (xs ++ x ∷ []) ≡ cond (p x) (filter p xs ++ x ∷ []) (filter p xs)
@@ -114,7 +112,6 @@ place_within p (x ∷ xs) h = by (p x) h (place_within p xs)
 
 pub position_found : {A : Type 0} (p : A → Bool) (xs : List A) → list_any p xs ≡ true → position p xs ≡ Some (position_or_len p xs)
 position_found p xs h = ap (λ b. cond b (Some (position_or_len p xs)) None) (lt-ltb _ _ (place_within p xs h))
-
 
 -- what is read at a place, behind a map
 pub read_mapped : {A B : Type 0} (f : A → B) (xs : List A) (k : ℕ) (x : A) (d : B) → slice_get xs k ≡ Some x → get_or (map f xs) k d ≡ f x

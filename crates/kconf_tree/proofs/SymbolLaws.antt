@@ -1,5 +1,5 @@
 -- The symbols, as one more entry comes.
-use Rattle.std.proofs.Common.{◌≡◌, ℕ, zero, suc, ◌+◌, ◌<◌, Bool, true, false, not, ◌&&◌, ◌||◌, cond, nat_lt, Option, None, Some, List, [], ◌∷◌, ◌++◌, length, map, position, get_or, set, refl, ap, sym, subst, ◌∙◌, arith}
+use Rattle.std.proofs.Common.{◌≡◌, ℕ, suc, ◌+◌, Bool, true, false, not, ◌||◌, cond, Option, None, Some, List, [], ◌∷◌, ◌++◌, length, map, position, get_or, set, refl, ap, sym, subst, ◌∙◌, arith}
 use Rattle.std.proofs.lemmas.Bool.{false≢true}
 use Rattle.std.proofs.lemmas.List.{append-nil}
 use Rattle.std.proofs.lemmas.List.Concat.{flat_map-append}
@@ -10,8 +10,8 @@ use Rattle.ut_logic.specs.Text.{text_eq, text_equiv, text_eq-exact}
 use Rattle.kconf_parse.specs.declared.entries.Kind.{Kind}
 use Rattle.kconf_parse.specs.declared.entries.ConfigEntry.{ConfigEntry}
 use Rattle.kconf_tree.specs.declared.shape.Symbol.{Symbol}
-use Rattle.kconf_tree.specs.Shape.{Shape, number_of, no_symbol}
-use Rattle.kconf_tree.specs.Gathered.{entries_named, first_kind, first_choice, member_choice, symbols_of}
+use Rattle.kconf_tree.specs.Shape.{number_of, no_symbol}
+use Rattle.kconf_tree.specs.Gathered.{entries_named, first_kind, first_choice, member_choice}
 use Rattle.kconf_tree.specs.Value.{is_text_or_number}
 use Rattle.kconf_tree.specs.declared.types.Declared.{Declared}
 use Rattle.kconf_tree.specs.Types.{declared_by, names_of, types_of, typed, typed_symbol}

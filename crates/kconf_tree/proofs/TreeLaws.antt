@@ -1,17 +1,14 @@
 -- What is gathered is the tree of the entries.
-use Rattle.std.proofs.Common.{◌≡◌, ℕ, zero, suc, ◌+◌, ◌<◌, Bool, true, false, not, ◌&&◌, ◌||◌, cond, Option, None, Some, List, [], ◌∷◌, ◌++◌, length, map, position, get_or, drop, refl, ap, sym, subst, ◌∙◌, arith}
+use Rattle.std.proofs.Common.{◌≡◌, ℕ, zero, suc, ◌+◌, ◌<◌, false, not, ◌&&◌, cond, Option, None, Some, List, [], ◌∷◌, ◌++◌, length, map, get_or, drop, refl, ap, sym, ◌∙◌, arith}
 use Rattle.std.proofs.lemmas.Iterator.Adapters.{position_from-zero}
 use Rattle.std.proofs.lemmas.List.{length-map, drop_more}
 use Rattle.std.specs.List.{flat_map, position_from}
-use Rattle.std.specs.Option.{option_or}
-use Rattle.ut_logic.specs.Text.{text_eq}
 use Rattle.kconf_parse.specs.declared.expr.Side.{Side}
 use Rattle.kconf_parse.specs.declared.expr.Side.TheVariants as side
 use Rattle.kconf_parse.specs.declared.expr.Sign.{Sign}
 use Rattle.kconf_parse.specs.declared.expr.Expr.{Expr}
 use Rattle.kconf_parse.specs.declared.expr.Expr.TheOpen.{Expr-F}
 use Rattle.kconf_parse.specs.declared.expr.Expr.TheFolds.{fold-Expr}
-use Rattle.kconf_parse.specs.declared.entries.Kind.{Kind}
 use Rattle.kconf_parse.specs.declared.entries.Kind.TheVariants as kind
 use Rattle.kconf_parse.specs.declared.entries.DefaultOf.{DefaultOf}
 use Rattle.kconf_parse.specs.declared.entries.SelectOf.{SelectOf}
@@ -20,9 +17,9 @@ use Rattle.kconf_parse.specs.declared.entries.ChoiceEntry.{ChoiceEntry}
 use Rattle.kconf_parse.specs.declared.entries.Entries.{Entries}
 use Rattle.kconf_tree.specs.declared.shape.Symbol.{Symbol}
 use Rattle.kconf_tree.specs.declared.types.Declared.{Declared}
-use Rattle.kconf_tree.specs.Shape.{Shape, no_symbol, symbol_at, number_of}
+use Rattle.kconf_tree.specs.Shape.{Shape, no_symbol, number_of}
 use Rattle.kconf_tree.specs.Value.{has_trit, has_trit_named, is_text_or_number, compares_trits, comparison_text, is_equation}
-use Rattle.kconf_tree.specs.Gathered.{once, entries_named, first_kind, symbol_of, symbols_of, is_bool_or_tristate, has_modules_line, modules_of, joined, outers_step, outers_in, outers_of_config, outers_of_choice, without_outers, gathered}
+use Rattle.kconf_tree.specs.Gathered.{once, entries_named, symbol_of, symbols_of, is_bool_or_tristate, has_modules_line, modules_of, outers_step, outers_in, without_outers, gathered}
 use Rattle.kconf_tree.specs.Types.{declared_by, names_of, types_of, typed, typed_symbol, declared_at, outers_with}
 use Rattle.kconf_tree.specs.Modules.{modules_from}
 use Rattle.kconf_tree.specs.Apart.{names_in}

@@ -1,5 +1,5 @@
 -- What the entries of each name declare, as one more entry comes; and a tree of types alone.
-use Rattle.std.proofs.Common.{◌≡◌, ℕ, zero, suc, ◌+◌, ◌<◌, Bool, true, false, not, ◌&&◌, ◌||◌, cond, Option, None, Some, List, [], ◌∷◌, ◌++◌, length, map, get_or, refl, ap, sym, subst, ◌∙◌, arith}
+use Rattle.std.proofs.Common.{◌≡◌, Bool, true, false, ◌||◌, cond, None, Some, List, [], ◌∷◌, ◌++◌, map, refl, ap, sym, ◌∙◌}
 use Rattle.std.proofs.lemmas.List.Folds.{list_any-append}
 use Rattle.std.specs.List.{list_any}
 use Rattle.std.specs.Map.{lookup}
@@ -8,7 +8,6 @@ use Rattle.ut_logic.specs.Text.{text_eq, text_equiv}
 use Rattle.kconf_parse.specs.declared.entries.Kind.{Kind}
 use Rattle.kconf_parse.specs.declared.entries.Kind.TheVariants as kind
 use Rattle.kconf_parse.specs.declared.entries.ConfigEntry.{ConfigEntry}
-use Rattle.kconf_tree.specs.declared.types.Declared.{Declared}
 use Rattle.kconf_tree.specs.Gathered.{entries_named, first_kind, is_untyped}
 use Rattle.kconf_tree.specs.Types.{declared_by, joined_with, names_of, types_of}
 use Rattle.kconf_tree.proofs.Places.{distinct_has}

@@ -1,13 +1,11 @@
 -- What a tree is made of, and why entries are refused.
 -- Rule: this project's own.
-use Rattle.std.specs.Prelude.{◌≡◌, ℕ, ◌^◌, ◌<◌, List, length, All, Option, None, Some}
+use Rattle.std.specs.Prelude.{◌≡◌, ◌^◌, ◌<◌, length, All, None, Some}
 use Rattle.std.specs.Option.{IfSome}
-use Rattle.ut_logic.specs.declared.node.Node.{Node}
 use Rattle.kconf_parse.specs.declared.entries.ConfigEntry.{ConfigEntry}
 use Rattle.kconf_parse.specs.declared.entries.Entries.{Entries}
 use Rattle.kconf_tree.specs.declared.bad.TreeBad.{TreeBad}
 use Rattle.kconf_tree.specs.declared.bad.TreeBad.TheVariants.{TooMany, Recursive, Oom}
-use Rattle.kconf_tree.specs.Shape.{Shape}
 use Rattle.kconf_tree.specs.Gathered.{gathered}
 use Rattle.kconf_tree.specs.Limits.{first_passed}
 use Rattle.kconf_tree.specs.Orders.{IsOrder, IsAccepted, IsFirstCycle}

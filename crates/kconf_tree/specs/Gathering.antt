@@ -1,7 +1,6 @@
 -- How symbols and choices are gathered, one entry after another. No public contract cites this module.
-use Rattle.std.specs.Prelude.{ℕ, Bool, List, [], ◌∷◌, ◌++◌, Option, None, Some, slice_index_or, slice_set, map}
+use Rattle.std.specs.Prelude.{ℕ, List, [], ◌∷◌, ◌++◌, Option, None, Some, slice_index_or, slice_set, map}
 use Rattle.std.specs.Option.{option_or}
-use Rattle.std.specs.List.{flat_map}
 use Rattle.kconf_parse.specs.declared.entries.Kind.{Kind}
 use Rattle.kconf_parse.specs.declared.entries.ConfigEntry.{ConfigEntry}
 use Rattle.kconf_tree.specs.declared.shape.Symbol.{Symbol}

@@ -11,7 +11,6 @@ pub mod Limits
 pub mod Arranged
 pub mod Built
 pub mod Apart
-
 -- the words of inner functions
 pub mod Types
 pub mod Gathering

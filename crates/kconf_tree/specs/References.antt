@@ -2,11 +2,11 @@
 -- are one node, and a symbol that is no member is one.
 -- Rule: Linux kconfig-language, "Menu dependencies" and "Menu attributes", name what depends on what;
 -- which of these references count is this project's rule.
-use Rattle.std.specs.Prelude.{ℕ, Bool, List, [], ◌∷◌, ◌++◌, Option, None, Some, if◌then◌else◌, map}
+use Rattle.std.specs.Prelude.{ℕ, List, [], ◌∷◌, ◌++◌, Option, None, Some, if◌then◌else◌, map}
 use Rattle.std.specs.List.{flat_map}
 use Rattle.std.specs.Option.{option_to_list}
 use Rattle.ut_logic.specs.declared.trit.Trit.{Trit}
-use Rattle.ut_logic.specs.declared.trit.Trit.TheVariants.{N, M, Y}
+use Rattle.ut_logic.specs.declared.trit.Trit.TheVariants.{M}
 use Rattle.ut_logic.specs.declared.node.Node.{Node}
 use Rattle.ut_logic.specs.declared.node.Node.TheVariants.{Sym, Choice}
 use Rattle.kconf_parse.specs.declared.expr.Side.{Side}

@@ -1,5 +1,5 @@
 -- The parts of a tree, and what is true of them. No public contract cites this module.
-use Rattle.std.specs.Prelude.{◌≡◌, ◌<◌, ◌≤◌, ◌^◌, ℕ, length, All, IfSome}
+use Rattle.std.specs.Prelude.{◌≡◌, ◌<◌, ◌≤◌, ◌^◌, length, All, IfSome}
 use Rattle.ut_logic.specs.Text.{text_eq}
 use Rattle.kconf_tree.specs.declared.shape.Symbol.{Symbol}
 use Rattle.kconf_tree.specs.declared.shape.Choice.{Choice}

@@ -1,6 +1,6 @@
 -- Names with what their entries declare, as they are gathered, and a tree of types alone.
 -- This project's rule.
-use Rattle.std.specs.Prelude.{ℕ, Bool, false, ◌||◌, List, [], ◌++◌, Option, None, Some, if◌then◌else◌, map, slice_index_or}
+use Rattle.std.specs.Prelude.{ℕ, false, ◌||◌, List, [], ◌++◌, Option, None, Some, if◌then◌else◌, map, slice_index_or}
 use Rattle.std.specs.List.{list_any, flat_map}
 use Rattle.kconf_parse.specs.declared.entries.Kind.{Kind}
 use Rattle.kconf_parse.specs.declared.entries.Kind.TheVariants as kind

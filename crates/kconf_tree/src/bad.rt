@@ -10,16 +10,11 @@ pub enum TreeBad {
     /// how many. Symbols come first, then the members of the choices in order, then the defaults of the
     /// symbols in order.
     #[error("limit: {count}")]
-    TooMany {
-        what: Limit,
-        count: u64,
-    },
+    TooMany { what: Limit, count: u64 },
     /// Within the limits, symbols and choices can't be ordered so that each stands after all that it
     /// refers to. `cycle` begins and ends with the first node on a cycle, and each refers to the next.
     #[error("recursive")]
-    Recursive {
-        cycle: Sequence<Node>,
-    },
+    Recursive { cycle: Sequence<Node> },
     /// There is not enough memory.
     #[error("memory")]
     Oom,

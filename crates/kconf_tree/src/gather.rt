@@ -14,7 +14,11 @@ use std::alloc::{AllocError, Global};
 fn member_choice(kind: Kind, choice: Option<u32>) -> Option<u32>
     ensures { result ≡ spec.member_choice kind choice }
 {
-    if is_text_or_number(kind) { None } else { choice }
+    if is_text_or_number(kind) {
+        None
+    } else {
+        choice
+    }
 }
 
 /// Moves the properties of one more entry into its symbol.
@@ -37,7 +41,9 @@ fn add_entry(symbol: &mut Symbol, config: ConfigEntry) -> Result<(), AllocError>
     }
     symbol.places.push(depends)?;
     symbol.prompts.append(Items::from_vec(prompts.into_vec()))?;
-    symbol.defaults.append(Items::from_vec(defaults.into_vec()))?;
+    symbol
+        .defaults
+        .append(Items::from_vec(defaults.into_vec()))?;
     symbol.selects.append(Items::from_vec(selects.into_vec()))?;
     symbol.implies.append(Items::from_vec(implies.into_vec()))
 }
@@ -54,11 +60,7 @@ fn bare_symbols(alloc: Global, types: &Types) -> Result<Vec<Symbol>, AllocError>
 }
 
 /// Moves the properties of one more entry to its symbol.
-fn add(
-    types: &Types,
-    symbols: &mut Vec<Symbol>,
-    config: ConfigEntry,
-) -> Result<(), AllocError>
+fn add(types: &Types, symbols: &mut Vec<Symbol>, config: ConfigEntry) -> Result<(), AllocError>
     requires { length symbols.old.items ≡ length types.now }
     ensures { OnOk result (symbols.new.items ≡ with_entry_at symbols.old.items (number_of (typed types.now) config.name) config) }
 {

@@ -26,10 +26,10 @@ mod numbering;
 mod order;
 mod outers;
 mod place;
-mod tree_graph;
 mod references;
 mod shape;
 mod tree;
+mod tree_graph;
 mod types;
 
 pub use bad::TreeBad;

@@ -39,12 +39,7 @@ pub struct Links {
 
 impl Tree {
     /// Adds a select or an imply of a symbol to what its target refers to.
-    fn link(
-        &self,
-        by: u32,
-        select: &SelectOf,
-        rows: &mut Vec<Items<u32>>,
-    ) -> Result<(), AllocError>
+    fn link(&self, by: u32, select: &SelectOf, rows: &mut Vec<Items<u32>>) -> Result<(), AllocError>
         requires count { length rows.old.items ≡ length self.now.shape.symbols }
         requires by { by < length self.now.shape.symbols }
         requires within { All (λ row. All (λ k. k < length self.now.shape.symbols) row) rows.old.items }

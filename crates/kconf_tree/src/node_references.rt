@@ -5,8 +5,8 @@ ghost use Rattle.kconf_tree.specs.References as spec;
 ghost use Rattle.kconf_tree.specs.Links.{AreLinks};
 
 use crate::links::Links;
-use crate::references::push;
 use crate::place::Place;
+use crate::references::push;
 use crate::shape::Counts;
 use crate::tree::Tree;
 use kconf_parse::{Kind, SelectOf};

@@ -101,7 +101,12 @@ impl Tree {
 
     /// Adds the symbols that an expression asks for, in order.
     #[cycle(mention)]
-    pub(crate) fn mention(&self, place: Place, e: &Expr, row: &mut Items<u32>) -> Result<(), AllocError>
+    pub(crate) fn mention(
+        &self,
+        place: Place,
+        e: &Expr,
+        row: &mut Items<u32>,
+    ) -> Result<(), AllocError>
         requires { All (λ k. k < length self.now.shape.symbols) row.old }
         ensures row { OnOk result (row.new ≡ row.old ++ spec.numbers_in self.now.shape place e.now) }
         ensures within { OnOk result (All (λ k. k < length self.now.shape.symbols) row.new) }

@@ -14,7 +14,11 @@ use std::alloc::{AllocError, Global};
 
 impl Tree {
     /// The tree of the entries, still without an order. The only error is want of memory.
-    pub(crate) fn gathered(alloc: Global, types: Types, entries: Entries) -> Result<Tree, AllocError>
+    pub(crate) fn gathered(
+        alloc: Global,
+        types: Types,
+        entries: Entries,
+    ) -> Result<Tree, AllocError>
         requires types { types ≡ types_of entries.configs }
         requires few { length types ≤ 65536 }
         requires choices { HaveChoices entries }

@@ -31,11 +31,7 @@ fn node_at(nodes: &IndexSet<Node>, place: u32) -> Node
 }
 
 /// The nodes at places.
-fn nodes_at(
-    alloc: Global,
-    nodes: &IndexSet<Node>,
-    places: &[u32],
-) -> Result<Vec<Node>, AllocError>
+fn nodes_at(alloc: Global, nodes: &IndexSet<Node>, places: &[u32]) -> Result<Vec<Node>, AllocError>
     ensures { IfOk result (λ v. v.items ≡ map (λ k. slice_index_or nodes.now.keys k (one.Sym 0)) places.now) }
 {
     let mut list = Vec::with_capacity(alloc, places.len())?;

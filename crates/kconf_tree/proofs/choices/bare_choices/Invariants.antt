@@ -1,5 +1,5 @@
 -- What is left gives the rest.
-use Rattle.std.proofs.Common.{◌≡◌, ◌++◌, drop, length, map}
+use Rattle.std.proofs.Common.{◌≡◌, ◌++◌, drop, length}
 use Rattle.kconf_tree.specs.Choosing.{bare_choices}
 use Rattle.kconf_tree.proofs.choices.bare_choices.Given as goal
 

@@ -1,4 +1,4 @@
-use Rattle.std.proofs.Common.{sym, ap, subst, ◌≡◌, ◌∙◌, List, [], ◌∷◌, ◌++◌, append_assoc, length, Bool, true}
+use Rattle.std.proofs.Common.{sym, ap, subst, ◌≡◌, ◌∙◌, List, [], ◌∷◌, ◌++◌, append_assoc, length, true}
 use Rattle.std.proofs.lemmas.List.{append-nil, nil_from_length}
 use Rattle.std.specs.List.{list_any}
 use Rattle.ut_logic.specs.Text.{text_eq}

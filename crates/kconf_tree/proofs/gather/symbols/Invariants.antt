@@ -1,5 +1,5 @@
 -- The symbols have the entries so far, and the others are still to come.
-use Rattle.std.proofs.Common.{◌≡◌, ◌++◌, length}
+use Rattle.std.proofs.Common.{◌≡◌, ◌++◌}
 use Rattle.kconf_tree.specs.Gathering.{symbols_after}
 use Rattle.kconf_tree.proofs.gather.symbols.Given as goal
 

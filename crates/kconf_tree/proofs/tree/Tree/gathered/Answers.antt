@@ -1,12 +1,11 @@
 use Rattle.std.proofs.Common.{◌≡◌, ◌<◌, sym, ap, ◌∙◌, subst, List, length, map, All, arith}
 use Rattle.ut_logic.specs.Text.{text_eq}
-use Rattle.kconf_parse.specs.declared.entries.Kind.{Kind}
 use Rattle.kconf_parse.specs.declared.entries.ChoiceEntry.{ChoiceEntry}
 use Rattle.kconf_tree.specs.declared.shape.Symbol.{Symbol}
 use Rattle.kconf_tree.specs.declared.shape.Choice.{Choice}
 use Rattle.kconf_tree.specs.Apart.{AreApart}
-use Rattle.kconf_tree.specs.Gathered.{symbols_of, choices_from, gathered}
-use Rattle.kconf_tree.specs.Types.{types_of, typed, outers_with}
+use Rattle.kconf_tree.specs.Gathered.{symbols_of, choices_from}
+use Rattle.kconf_tree.specs.Types.{typed, outers_with}
 use Rattle.kconf_tree.specs.Choosing.{typed_by_all, bare_choices, with_members}
 use Rattle.kconf_tree.specs.Modules.{modules_from}
 use Rattle.kconf_tree.specs.Apart.{names_in}

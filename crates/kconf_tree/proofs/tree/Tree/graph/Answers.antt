@@ -1,8 +1,7 @@
-use Rattle.std.proofs.Common.{◌≡◌, sym, ap, ◌∙◌, subst, length, map, arith}
+use Rattle.std.proofs.Common.{sym, ap, ◌∙◌, subst, length, arith}
 use Rattle.kconf_tree.specs.Graph.{IsGraph}
-use Rattle.kconf_tree.specs.Orders.{nodes_of, graph_of}
 use Rattle.kconf_tree.specs.Links.{AreRowsBelow}
-use Rattle.kconf_tree.specs.Numbering.{rows_among, lists_of}
+use Rattle.kconf_tree.specs.Numbering.{rows_among}
 use Rattle.kconf_tree.proofs.GraphOf.{length-nodes, graph_is, graph_whole}
 use Rattle.kconf_tree.proofs.tree.Tree.graph.Goals as goal
 

@@ -5,10 +5,10 @@ use Rattle.kconf_tree.proofs.tree.Tree.links.Goals as goal
 
 pub returns : goal.returns
 returns c = let t = c.args.self.now.shape in record {
-    selects_count = c.in_ok-selects.ensures.count;
-    implies_count = c.in_ok-implies.ensures.count;
-    selects = λ k l. ap (λ rows. get_or rows k []) c.in_ok-selects.ensures.rows ∙ links_at t c.requires Selects k l;
-    implies = λ k l. ap (λ rows. get_or rows k []) c.in_ok-implies.ensures.rows ∙ links_at t c.requires Implies k l;
-    selects_within = c.in_ok-selects.ensures.within;
-    implies_within = c.in_ok-implies.ensures.within;
-  }
+  selects_count = c.in_ok-selects.ensures.count;
+  implies_count = c.in_ok-implies.ensures.count;
+  selects = λ k l. ap (λ rows. get_or rows k []) c.in_ok-selects.ensures.rows ∙ links_at t c.requires Selects k l;
+  implies = λ k l. ap (λ rows. get_or rows k []) c.in_ok-implies.ensures.rows ∙ links_at t c.requires Implies k l;
+  selects_within = c.in_ok-selects.ensures.within;
+  implies_within = c.in_ok-implies.ensures.within;
+}
