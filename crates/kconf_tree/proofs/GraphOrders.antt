@@ -117,7 +117,7 @@ module _ (t : Shape) (apart : AreApart node_eq (nodes_of t)) (numbers : List ℕ
     λ g. elim (or_cases (node_eq (node_at t a) m) (among node_eq there m) g) [
       | inl here ↦ (a, Contains-append_right pre (a ∷ []) a (0, omega arith, refl), (node_eq-Decides (node_at t a) m).0 here)
       | inr there ↦ (((h m).1 there).0, Contains-append_left pre (a ∷ []) ((h m).1 there).0 ((h m).1 there).1, ((h m).1 there).2)
-    ]
+    ],
   )
     where
       only : (b : ℕ) → Contains (a ∷ []) b → a ≡ b

@@ -43,7 +43,6 @@ agree_right c d [] ks h = h
 agree_right c d (j ∷ js) ks h = agree_right c d js ks h.1
 
 module _ (t : Shape) (c d : Configuration) (alike : Alike c d) where
-
   pub on_same : Agree c d (option_to_list t.modules) → has_modules t c ≡ has_modules t d
   on_same h = by t.modules refl h
     where
