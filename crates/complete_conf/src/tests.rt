@@ -8,7 +8,8 @@ use ut_logic::{Sequence, Text, Trit};
 
 // A tree is written as its configs, and behind a `/` its choices, with `;` between. A config is its name,
 // its type and its properties: `p:COND` a prompt, `d:VALUE:COND` a default, `s:TARGET:COND` a select,
-// `c:K` the choice that it stands in, `modules`. A choice is its properties and perhaps `optional`.
+// `c:0` that it stands in the choice, `modules`. A choice is its prompts, its defaults written as selects, and
+// perhaps `optional`.
 
 fn word(alloc: Global, text: &str) -> Result<Expr, Fail> {
     if let Some(rest) = text.strip_prefix("!") {
@@ -75,74 +76,91 @@ fn kind(text: &str) -> Kind {
     }
 }
 
-fn config(alloc: Global, text: &str) -> Result<ConfigEntry, Fail> {
-    let mut words = text.split(" ");
-    let name = Text::new(alloc, words.next().unwrap_or(""))?;
-    let kind = kind(words.next().unwrap_or(""));
-    let mut prompts = Vec::new(alloc);
-    let mut defaults = Vec::new(alloc);
-    let mut selects = Vec::new(alloc);
-    let mut modules = false;
-    let mut choice = None;
-    for property in words {
-        if property == "modules" {
-            modules = true;
-        } else if property == "c:0" {
-            choice = Some(0);
-        } else if property == "c:1" {
-            choice = Some(1);
-        } else if let Some(cond) = property.strip_prefix("p:") {
-            prompts.push(expr(alloc, cond)?)?;
-        } else if let Some(default) = property.strip_prefix("d:") {
-            let (value, cond) = default.split_once(":").ok_or("a condition")?;
-            let value = expr(alloc, value)?;
-            let cond = expr(alloc, cond)?;
-            defaults.push(DefaultOf {
-                value,
-                cond,
-                text: None,
-            })?;
-        } else if let Some(select) = property.strip_prefix("s:") {
-            let (target, cond) = select.split_once(":").ok_or("a condition")?;
-            let target = Text::new(alloc, target)?;
-            let cond = expr(alloc, cond)?;
-            selects.push(SelectOf { target, cond })?;
+/// The properties of a config or of a choice.
+#[derive(Drop)]
+struct Properties {
+    prompts: Vec<Expr>,
+    defaults: Vec<DefaultOf>,
+    selects: Vec<SelectOf>,
+    modules: bool,
+    optional: bool,
+    choice: Option<u32>,
+}
+
+fn default(alloc: Global, text: &str) -> Result<DefaultOf, Fail> {
+    let (value, cond) = text.split_once(":").ok_or("a condition")?;
+    let value = expr(alloc, value)?;
+    let cond = expr(alloc, cond)?;
+    Ok(DefaultOf {
+        value,
+        cond,
+        text: None,
+    })
+}
+
+fn select(alloc: Global, text: &str) -> Result<SelectOf, Fail> {
+    let (target, cond) = text.split_once(":").ok_or("a condition")?;
+    let target = Text::new(alloc, target)?;
+    let cond = expr(alloc, cond)?;
+    Ok(SelectOf { target, cond })
+}
+
+fn add(alloc: Global, properties: &mut Properties, text: &str) -> Result<(), Fail> {
+    let (word, rest) = text.split_once(":").unwrap_or((text, ""));
+    match word {
+        "modules" => properties.modules = true,
+        "optional" => properties.optional = true,
+        "c" => properties.choice = Some(0),
+        "p" => properties.prompts.push(expr(alloc, rest)?)?,
+        "d" => properties.defaults.push(default(alloc, rest)?)?,
+        "s" => properties.selects.push(select(alloc, rest)?)?,
+        _ => return Err(Fail::from("a property")),
+    }
+    Ok(())
+}
+
+fn properties_of(alloc: Global, text: &str) -> Result<Properties, Fail> {
+    let mut properties = Properties {
+        prompts: Vec::new(alloc),
+        defaults: Vec::new(alloc),
+        selects: Vec::new(alloc),
+        modules: false,
+        optional: false,
+        choice: None,
+    };
+    if text != "" {
+        for word in text.split(" ") {
+            add(alloc, &mut properties, word)?;
         }
     }
+    Ok(properties)
+}
+
+fn config(alloc: Global, text: &str) -> Result<ConfigEntry, Fail> {
+    let (name, rest) = text.split_once(" ").ok_or("a type")?;
+    let (type_word, rest) = rest.split_once(" ").unwrap_or((rest, ""));
+    let name = Text::new(alloc, name)?;
+    let has = properties_of(alloc, rest)?;
     Ok(ConfigEntry {
         name,
-        kind,
+        kind: kind(type_word),
         depends: Expr::Const(Trit::Y),
-        prompts: Sequence::from_vec(prompts),
-        defaults: Sequence::from_vec(defaults),
-        selects: Sequence::from_vec(selects),
+        prompts: Sequence::from_vec(has.prompts),
+        defaults: Sequence::from_vec(has.defaults),
+        selects: Sequence::from_vec(has.selects),
         implies: Sequence::new(alloc),
-        modules,
-        choice,
+        modules: has.modules,
+        choice: has.choice,
     })
 }
 
 fn choice(alloc: Global, text: &str) -> Result<ChoiceEntry, Fail> {
-    let mut prompts = Vec::new(alloc);
-    let mut defaults = Vec::new(alloc);
-    let mut optional = false;
-    for property in text.split(" ") {
-        if property == "optional" {
-            optional = true;
-        } else if let Some(cond) = property.strip_prefix("p:") {
-            prompts.push(expr(alloc, cond)?)?;
-        } else if let Some(default) = property.strip_prefix("d:") {
-            let (target, cond) = default.split_once(":").ok_or("a condition")?;
-            let target = Text::new(alloc, target)?;
-            let cond = expr(alloc, cond)?;
-            defaults.push(SelectOf { target, cond })?;
-        }
-    }
+    let has = properties_of(alloc, text)?;
     Ok(ChoiceEntry {
         kind: Kind::Bool,
-        optional,
-        prompts: Sequence::from_vec(prompts),
-        defaults: Sequence::from_vec(defaults),
+        optional: has.optional,
+        prompts: Sequence::from_vec(has.prompts),
+        defaults: Sequence::from_vec(has.selects),
     })
 }
 
@@ -347,7 +365,7 @@ fn completion_by_hand(rt: HostRuntime) -> Result<(), Fail> {
         (OPTIONAL, "yn", "00", "y", "0", "", "nn", "n"),
         (HIDDEN, "nnn", "000", "n", "0", "", "nny", "y"),
         (
-            "X bool c:0 p:y;Y bool c:0 p:y/p:y d:Y:y",
+            "X bool c:0 p:y;Y bool c:0 p:y/p:y s:Y:y",
             "nn",
             "00",
             "n",
@@ -357,7 +375,7 @@ fn completion_by_hand(rt: HostRuntime) -> Result<(), Fail> {
             "y",
         ),
         (
-            "X bool c:0 p:y;Y bool c:0 p:n/p:y d:Y:y",
+            "X bool c:0 p:y;Y bool c:0 p:n/p:y s:Y:y",
             "nn",
             "00",
             "n",
@@ -367,7 +385,7 @@ fn completion_by_hand(rt: HostRuntime) -> Result<(), Fail> {
             "y",
         ),
         (
-            "X bool c:0 p:y;Y bool c:0 p:y/p:y d:Y:n",
+            "X bool c:0 p:y;Y bool c:0 p:y/p:y s:Y:n",
             "nn",
             "00",
             "n",
