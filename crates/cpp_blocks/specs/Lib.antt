@@ -1,3 +1,17 @@
 pub mod Pieces
 pub mod Blocks
 pub mod Run
+pub mod WellFormed
+pub mod Mentions
+pub mod PieceIdentity
+pub mod Nesting
+pub mod Turns
+pub mod Counted
+pub mod Nested
+pub mod Kept
+pub mod Formulas
+pub mod KeptTurns
+pub mod Steps
+pub mod Facts
+pub mod Gathered
+pub mod Solution

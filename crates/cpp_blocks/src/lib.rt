@@ -1,11 +1,34 @@
 //! The conditional groups of a C source, and what a run of its directives turns on.
 //!
-//! So far this crate holds the definitions alone: the blocks of a list of directives with their
-//! parents, and the run over the three states of each macro, by ISO C, "Conditional inclusion" and
-//! "Macro replacement". A contract sees the directives as a list, and a macro as undefined, defined and
-//! false, or defined and true.
+//! In go the directives of one source, out come its blocks with their parents and lines, its macro names and
+//! opaque pieces, and the facts of its blocks and macro states for a solver. The rules are those of ISO C,
+//! "Conditional inclusion" and "Macro replacement"; the three states of a macro, numbers and facts are this
+//! project's.
+//!
+//! A contract sees `Blocks` as the list of its directives. The promise to the crates above: for each choice of
+//! starts and free truths the facts have exactly one solution, and it is the run.
 #![tactic(auto)]
 
+mod blocks;
+mod conditions;
+mod facts;
+mod gathered;
+mod groups;
+mod mentions;
+mod nesting;
+mod piece_names;
+mod pieces;
+mod source_facts;
+mod starts;
 mod state;
+#[cfg(test)]
+mod tests;
+mod turns;
+mod well_formed;
 
+pub use blocks::Blocks;
+pub use pieces::PieceOf;
+pub use source_facts::block_facts;
+pub use starts::{BuiltOf, StartOf};
 pub use state::MacroState;
+pub use well_formed::is_well_formed;

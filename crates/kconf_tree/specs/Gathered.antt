@@ -21,10 +21,14 @@ use Rattle.kconf_tree.specs.declared.shape.Choice.{Choice}
 use Rattle.kconf_tree.specs.Shape.{Shape, is_the}
 use Rattle.kconf_tree.specs.Value.{is_text_or_number, compares_trits, comparison_text}
 
+-- the elements of a list, each at its first place
+abbrev pub distinct : {A : Type 0} → (A → A → Bool) → List A → List A
+distinct eq [] = []
+distinct eq (x ∷ xs) = x ∷ filter (λ y. not (eq x y)) (distinct eq xs)
+
 -- the texts of a list, each at its first place
 abbrev pub once : List (List ℕ) → List (List ℕ)
-once [] = []
-once (x ∷ xs) = x ∷ filter (λ y. not (text_eq x y)) (once xs)
+once = distinct text_eq
 
 -- the entries of one name
 abbrev pub entries_named : List ConfigEntry → List ℕ → List ConfigEntry
@@ -59,6 +63,7 @@ symbol_of es name = record {
   prompts = flat_map (λ (e : ConfigEntry). e.prompts) es;
   defaults = flat_map (λ (e : ConfigEntry). e.defaults) es;
   selects = flat_map (λ (e : ConfigEntry). e.selects) es;
+  implies = flat_map (λ (e : ConfigEntry). e.implies) es;
 }
 
 -- the symbols, in order of first declaration

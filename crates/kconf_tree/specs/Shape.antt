@@ -21,7 +21,7 @@ pub record Shape : Type 0 where
 
 -- behind the last symbol there is nothing
 abbrev pub no_symbol : Symbol
-no_symbol = record { name = []; kind = kind.Untyped; member_of = None; places = []; prompts = []; defaults = []; selects = [] }
+no_symbol = record { name = []; kind = kind.Untyped; member_of = None; places = []; prompts = []; defaults = []; selects = []; implies = [] }
 
 -- likewise a choice
 abbrev pub no_choice : Choice
@@ -86,3 +86,12 @@ selects_from name j (s ∷ ss) = selects_at name j s.selects ++ selects_from nam
 -- all selects of a symbol
 abbrev pub selectors_of : Shape → ℕ → List Selector
 selectors_of t k = selects_from (symbol_at t k).name 0 t.symbols
+
+-- likewise who implies it
+abbrev pub implies_from : List ℕ → ℕ → List Symbol → List Selector
+implies_from name j [] = []
+implies_from name j (s ∷ ss) = selects_at name j s.implies ++ implies_from name (suc j) ss
+
+-- all implies of a symbol
+abbrev pub impliers_of : Shape → ℕ → List Selector
+impliers_of t k = implies_from (symbol_at t k).name 0 t.symbols

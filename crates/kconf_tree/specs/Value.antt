@@ -16,6 +16,9 @@ use Rattle.kconf_parse.specs.declared.entries.Kind.{Kind}
 use Rattle.kconf_parse.specs.declared.entries.Kind.TheVariants as kind
 use Rattle.kconf_tree.specs.declared.shape.Counts.{Counts}
 use Rattle.kconf_tree.specs.declared.shape.Counts.TheVariants as counts
+-- where an expression stands: a bare m is n in a condition without modules, and m in a default's value
+pub use Rattle.kconf_tree.specs.declared.place.Place.{Place}
+pub use Rattle.kconf_tree.specs.declared.place.Place.TheVariants.{Condition, Value}
 use Rattle.kconf_tree.specs.Shape.{Shape, symbol_at, counts_as, number_of, outer_at}
 
 -- one value for each symbol, one mode for each choice, one truth for each outer condition; and of
@@ -25,11 +28,6 @@ pub record Configuration : Type 0 where
   pub mode : ℕ → ℕ
   pub outer : ℕ → Bool
   pub undeclared : List ℕ → Bool
-
--- where an expression stands: a bare m is n in a condition without modules, and m in a default's value
-pub data Place : Type 0 where
-  Condition : Place
-  Value : Place
 
 -- the minimum of values, y of none
 abbrev pub least : List ℕ → ℕ

@@ -1,11 +1,38 @@
 //! The tree of a Kconfig text: its symbols and choices with their properties, and what they mean.
 //!
-//! So far this crate holds the definitions alone: what a configuration is, the value of an expression
-//! under it, the limits of a symbol, and which configurations are valid, by the Linux document
-//! kconfig-language, "Menu attributes", "Menu dependencies" and "Menu structure". A contract sees a
-//! tree as a `Shape`, a record of lists in which symbols and choices are named by their places.
+//! In go the entries of the texts, out comes the tree with an order in which each symbol and choice stands
+//! after all that it refers to, or the limit that is passed, or the first cycle of references. The rules are
+//! those of the Linux document kconfig-language, "Menu attributes", "Menu dependencies" and "Menu
+//! structure"; which references count, and the limits, are this project's.
+//!
+//! A contract sees a tree as a `Shape`, a record of lists in which symbols and choices are named by their
+//! places, beside the order. The definitions say what a configuration is, the value of an expression under
+//! it, the limits of a symbol, and which configurations are valid.
 #![tactic(auto)]
 
+mod bad;
+mod choices;
+mod cycle;
+mod distance;
+mod gather;
+mod graph;
+#[cfg(test)]
+mod graph_tests;
+mod limits;
+mod links;
+mod modules_symbol;
+mod node_references;
+mod numbering;
+mod order;
+mod outers;
+mod place;
+mod references;
 mod shape;
+mod tree;
+mod tree_graph;
+mod types;
 
+pub use bad::TreeBad;
+pub use place::Place;
 pub use shape::{Choice, Counts, Selector, Symbol};
+pub use tree::Tree;

@@ -24,6 +24,7 @@ pub struct Symbol {
     pub prompts: Items<Expr>,
     pub defaults: Items<DefaultOf>,
     pub selects: Items<SelectOf>,
+    pub implies: Items<SelectOf>,
 }
 
 /// A choice with its properties.
@@ -39,11 +40,11 @@ pub struct Choice {
     pub optional: bool,
 }
 
-/// A select as its target sees it.
+/// A select or an imply as its target sees it.
 #[derive(Drop)]
 pub struct Selector {
-    /// The number of the symbol that selects.
+    /// The number of the symbol that selects or implies.
     pub by: u32,
-    /// The full condition of the select.
+    /// The full condition of it.
     pub cond: Expr,
 }

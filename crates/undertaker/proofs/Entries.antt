@@ -22,7 +22,8 @@ use Rattle.kconf_tree.specs.declared.shape.Symbol.{Symbol}
 use Rattle.kconf_tree.specs.declared.shape.Counts.TheVariants as counts
 use Rattle.kconf_tree.specs.Shape.{Shape, symbol_at, no_symbol, number_of, counts_as, counts_with, is_member, is_the, selects_from}
 use Rattle.kconf_tree.specs.Gathered.{once, entries_named, symbol_of, symbols_of, choices_from, gathered}
-use Rattle.kconf_tree.specs.Value.{Configuration, value_of, value_step, Condition, least, greatest, stands_for, named, name_value, is_text_or_number}
+use Rattle.kconf_tree.specs.declared.place.Place.TheVariants.{Condition}
+use Rattle.kconf_tree.specs.Value.{Configuration, value_of, value_step, least, greatest, stands_for, named, name_value, is_text_or_number}
 use Rattle.kconf_tree.specs.Properties.{visibility_of, reverse_of, default_of, selected_by, first_default}
 use Rattle.undertaker.specs.Dependencies.{Graph, needs_at, names_in, name_at, numbers_of, declared_in, graph_of}
 use Rattle.undertaker.specs.FirstEntries.{AreFirst}

@@ -9,7 +9,8 @@ use Rattle.kconf_parse.specs.declared.expr.Expr.TheFolds.{fold_out-Expr, map-Exp
 use Rattle.kconf_parse.specs.declared.expr.Expr.TheViews.{the_lemmas}
 use Rattle.kconf_tree.specs.declared.shape.Counts.TheVariants as counts
 use Rattle.kconf_tree.specs.Shape.{Shape}
-use Rattle.kconf_tree.specs.Value.{Configuration, Condition, value_of, value_step, name_value}
+use Rattle.kconf_tree.specs.declared.place.Place.TheVariants.{Condition}
+use Rattle.kconf_tree.specs.Value.{Configuration, value_of, value_step, name_value}
 use Rattle.kconf_tree.specs.Properties.{visibility_of}
 use Rattle.kconf_tree.specs.Valid.{calculate, calculated_of, HasValueBy, IsSettingOf, KeepsRules, IsValid}
 use Rattle.worked_rows.specs.Texts.{two_tree}

@@ -1,0 +1,8 @@
+-- The new ones of what is left, behind what is there, give the whole.
+use Rattle.std.proofs.Common.{◌≡◌, [], drop}
+use Rattle.ut_logic.specs.Text.{text_eq}
+use Rattle.cpp_blocks.specs.Mentions.{firsts}
+use Rattle.cpp_blocks.proofs.turns.distinct.Given as goal
+
+abbrev pub invariant-loop-name : goal.invariant-loop-name
+invariant-loop-name l = firsts text_eq l.set.keys (drop l.name-index l.names) ≡ firsts text_eq [] l.names

@@ -1,0 +1,23 @@
+-- What the fields of `Blocks` hold.
+use Rattle.std.specs.Prelude.{◌≡◌, ℕ, List, [], ◌∷◌}
+use Rattle.cpp_read.specs.declared.directive.Directive.{Directive}
+use Rattle.cpp_blocks.specs.declared.pieces.PieceOf.{PieceOf}
+use Rattle.cpp_blocks.specs.Blocks.{innermost, open_behind, next_behind, parents_of}
+use Rattle.cpp_blocks.specs.Mentions.{names_of}
+use Rattle.cpp_blocks.specs.Nesting.{openers_from}
+use Rattle.cpp_blocks.specs.Turns.{pieces_of}
+use Rattle.cpp_blocks.specs.WellFormed.{IsWellFormed}
+
+-- the innermost open block behind each directive
+abbrev pub inner_from : ℕ → List ℕ → List Directive → List ℕ
+inner_from next inside [] = []
+inner_from next inside (d ∷ ds) = innermost (open_behind next inside d.what) ∷ inner_from (next_behind next d.what) (open_behind next inside d.what) ds
+
+-- the fields are those of the directives
+pub record IsKept (ds : List Directive) (parents openers inner : List ℕ) (names : List (List ℕ)) (pieces : List PieceOf) : Type 0 where
+  pub formed : IsWellFormed ds
+  pub parents_are : parents ≡ parents_of ds
+  pub openers_are : openers ≡ openers_from 0 ds
+  pub inner_are : inner ≡ inner_from 1 [] ds
+  pub names_are : names ≡ names_of ds
+  pub pieces_are : pieces ≡ pieces_of ds

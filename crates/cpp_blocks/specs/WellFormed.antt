@@ -1,0 +1,64 @@
+-- What holds of the directives of each source that is read: chains match, with at most 250 open chains and
+-- 1,024 groups of one chain, a source has at most 65,535 blocks, and lines rise.
+-- Rule: ISO C, "Conditional inclusion"; the limits are this project's.
+use Rattle.std.specs.Prelude.{◌≡◌, ℕ, ◌+◌, ◌≤◌, Bool, true, false, not, ◌&&◌, nat_lt, List, [], ◌∷◌, length}
+use Rattle.cpp_read.specs.declared.directive.Directive.{Directive}
+use Rattle.cpp_read.specs.declared.directive.What.{What}
+use Rattle.cpp_read.specs.declared.directive.What.TheVariants.{If, Elif, Else, Endif, Define, Undef}
+use Rattle.cpp_blocks.specs.declared.well_formed.Chain.{Chain}
+use Rattle.cpp_blocks.specs.Blocks.{count_of}
+
+-- one more group of the innermost chain, where an open chain is told by the number of its groups so far and
+-- whether `#else` began one
+abbrev pub with_group : Bool → List Chain → List Chain
+with_group is_else [] = []
+with_group is_else (c ∷ cs) = record { groups = c.groups + 1; has_else = is_else } ∷ cs
+
+-- the chains round the innermost one
+abbrev pub closed : List Chain → List Chain
+closed [] = []
+closed (c ∷ cs) = cs
+
+-- the open chains behind a directive, innermost first
+abbrev pub chains_behind : List Chain → What → List Chain
+chains_behind cs (If cond) = record { groups = 1; has_else = false } ∷ cs
+chains_behind cs (Elif cond) = with_group false cs
+chains_behind cs Else = with_group true cs
+chains_behind cs Endif = closed cs
+chains_behind cs (Define name gives) = cs
+chains_behind cs (Undef name) = cs
+
+-- a chain is open, without its `#else` and with room for one more group
+abbrev pub takes_group : List Chain → Bool
+takes_group [] = false
+takes_group (c ∷ cs) = not c.has_else && nat_lt c.groups 1024
+
+-- some chain is open
+abbrev pub is_inside : List Chain → Bool
+is_inside [] = false
+is_inside (c ∷ cs) = true
+
+-- whether a directive may stand inside these chains
+abbrev pub may_stand : List Chain → What → Bool
+may_stand cs (If cond) = nat_lt (length cs) 250
+may_stand cs (Elif cond) = takes_group cs
+may_stand cs Else = takes_group cs
+may_stand cs Endif = is_inside cs
+may_stand cs (Define name gives) = true
+may_stand cs (Undef name) = true
+
+-- each directive may stand where it does, and no chain is left open
+abbrev pub chains_match : List Chain → List Directive → Bool
+chains_match cs [] = not (is_inside cs)
+chains_match cs (d ∷ ds) = may_stand cs d.what && chains_match (chains_behind cs d.what) ds
+
+-- each directive stands on a line behind that of the one before it, and the first behind this line
+abbrev pub lines_rise : ℕ → List Directive → Bool
+lines_rise line [] = true
+lines_rise line (d ∷ ds) = nat_lt line d.line && lines_rise d.line ds
+
+-- the directives of a source
+pub record IsWellFormed (ds : List Directive) : Type 0 where
+  pub chains : chains_match [] ds ≡ true
+  pub lines : lines_rise 0 ds ≡ true
+  pub blocks : count_of ds ≤ 65535

@@ -1,0 +1,264 @@
+//! The facts of blocks and of macro lines.
+
+ghost use Rattle.std.specs.Prelude.{◌≡◌, ◌++◌, ◌∷◌, [], map, filter, IfOk, OnOk};
+ghost use Rattle.ut_logic.specs.Truth.{mentioned, together};
+ghost use Rattle.ut_logic.specs.Fold as fold;
+ghost use Rattle.cpp_blocks.specs.Steps as spec;
+ghost use Rattle.cpp_blocks.specs.Formulas.{source_of};
+
+use crate::blocks::Blocks;
+use crate::conditions::{defined_item, state_node, true_item};
+use cpp_read::Gives;
+use std::alloc::{AllocError, Global};
+use ut_logic::{Definition, Fact, Formula, Item, Node, Sequence, Text, all_of, any_of, not_of};
+
+/// The block is on.
+fn on(file: u32, block: u32) -> Formula
+    ensures { result ≡ Formula.Is (Item.Block file block) }
+{
+    Formula::Is(Item::Block { file, block })
+}
+
+/// The block is off.
+fn off(alloc: Global, file: u32, block: u32) -> Result<Formula, AllocError>
+    ensures { IfOk result (λ f. f ≡ fold.not_of (Formula.Is (Item.Block file block))) }
+{
+    not_of(alloc, on(file, block))
+}
+
+/// The parent is on, and no earlier group is.
+fn turn_formulas(
+    alloc: Global,
+    file: u32,
+    parent: u32,
+    earlier: &[u32],
+) -> Result<Vec<Formula>, AllocError>
+    ensures { IfOk result (λ v. v.items ≡ Formula.Is (Item.Block file parent) ∷ map (λ group. fold.not_of (Formula.Is (Item.Block file group))) earlier.now) }
+{
+    let mut list = vec![in alloc; on(file, parent)]?;
+    for group in earlier {
+        list.push(off(alloc, file, *group)?)?;
+    }
+    Ok(list)
+}
+
+/// A group is on where its parent is, no earlier group is, and its condition holds.
+fn group_formula(
+    alloc: Global,
+    file: u32,
+    parent: u32,
+    earlier: &[u32],
+    cond: Formula,
+) -> Result<Formula, AllocError>
+    ensures { IfOk result (λ f. f ≡ spec.group_formula file parent earlier.now cond) }
+{
+    let mut list = turn_formulas(alloc, file, parent, earlier)?;
+    list.push(cond)?;
+    Ok(all_of(list))
+}
+
+/// Whether an item is that of a piece.
+fn is_piece(item: Item) -> bool
+    ensures { result ≡ spec.is_piece item }
+{
+    matches!(item, Item::Piece { .. })
+}
+
+/// Adds the items that the formula mentions.
+#[cycle(mention)]
+fn mention(f: &Formula, items: &mut Vec<Item>) -> Result<(), AllocError>
+    ensures { OnOk result (items.new.items ≡ items.old.items ++ mentioned f.now) }
+{
+    match f {
+        Formula::Yes => Ok(()),
+        Formula::No => Ok(()),
+        Formula::Is(item) => {
+            items.push(*item)?;
+            Ok(())
+        }
+        Formula::Neg(inner) => mention(inner.get(), items),
+        Formula::AllOf(list) => mention_each(list.as_slice(), items),
+        Formula::AnyOf(list) => mention_each(list.as_slice(), items),
+    }
+}
+
+#[cycle(mention)]
+fn mention_each(list: &[Formula], items: &mut Vec<Item>) -> Result<(), AllocError>
+    ensures { OnOk result (items.new.items ≡ items.old.items ++ together (map mentioned list.now)) }
+{
+    for f in list {
+        mention(f, items)?;
+    }
+    Ok(())
+}
+
+fn keep_pieces(items: &mut Vec<Item>)
+    ensures { items.new.items ≡ filter spec.is_piece items.old.items }
+{
+    items.retain(|item| is_piece(*item));
+}
+
+/// The block's own item, and those of the pieces in its formula.
+fn block_items(alloc: Global, own: Item, formula: &Formula) -> Result<Vec<Item>, AllocError>
+    ensures { IfOk result (λ items. items.items ≡ own ∷ filter spec.is_piece (mentioned formula.now)) }
+{
+    let mut found = Vec::new(alloc);
+    mention(formula, &mut found)?;
+    keep_pieces(&mut found);
+    let mut items = vec![in alloc; own]?;
+    items.extend_from_slice(&found)?;
+    Ok(items)
+}
+
+/// The block's parent, its earlier groups, and the states in its condition.
+fn block_names(
+    alloc: Global,
+    file: u32,
+    parent: u32,
+    earlier: &[u32],
+    states: &[Node],
+) -> Result<Vec<Node>, AllocError>
+    ensures { IfOk result (λ names. names.items ≡ Node.Block file parent ∷ map (λ group. Node.Block file group) earlier.now ++ states.now) }
+{
+    let mut names = vec![in alloc;
+        Node::Block {
+            file,
+            block: parent
+        },
+    ]?;
+    for block in earlier {
+        names.push(Node::Block {
+            file,
+            block: *block,
+        })?;
+    }
+    names.extend_from_slice(states)?;
+    Ok(names)
+}
+
+/// The fact of a group with this condition, which refers to these states.
+pub fn group_fact(
+    alloc: Global,
+    file: u32,
+    block: u32,
+    parent: u32,
+    earlier: &[u32],
+    states: &[Node],
+    cond: Formula,
+) -> Result<Fact, AllocError>
+    ensures { IfOk result (λ fact. fact ≡ spec.group_fact file block parent earlier.now states.now cond) }
+{
+    let item = Item::Block { file, block };
+    let formula = group_formula(alloc, file, parent, earlier, cond)?;
+    let items = block_items(alloc, item, &formula)?;
+    let names = block_names(alloc, file, parent, earlier, states)?;
+    Ok(Fact {
+        node: Node::Block { file, block },
+        holds: Sequence::new(alloc),
+        defines: Sequence::from_vec(vec![in alloc; Definition { item, formula }]?),
+        names: Sequence::from_vec(names),
+        items: Sequence::from_vec(items),
+    })
+}
+
+/// The fact of a macro's state behind a line of it in a block, where it was in the state of this turn before.
+fn state_fact(
+    alloc: Global,
+    file: u32,
+    blocks: &Blocks,
+    name: &Text,
+    turn: u32,
+    block: u32,
+    d: Formula,
+    t: Formula,
+    more: &[Item],
+) -> Result<Fact, AllocError>
+    ensures { IfOk result (λ fact. fact ≡ spec.state_fact (source_of file blocks.now) name.now turn block d t more.now) }
+{
+    let next = turn.checked_add(1).ok_or(AllocError)?;
+    let defined = defined_item(file, blocks, name, next)?;
+    let truth = true_item(file, blocks, name, next)?;
+    let mut items = vec![in alloc; defined, truth]?;
+    items.extend_from_slice(more)?;
+    let earlier = state_node(file, blocks, name, turn)?;
+    let defines = vec![in alloc;
+        Definition {
+            item: defined,
+            formula: d
+        },
+        Definition {
+            item: truth,
+            formula: t
+        },
+    ]?;
+    Ok(Fact {
+        node: state_node(file, blocks, name, next)?,
+        holds: Sequence::new(alloc),
+        defines: Sequence::from_vec(defines),
+        names: Sequence::from_vec(vec![in alloc; earlier, Node::Block { file, block }]?),
+        items: Sequence::from_vec(items),
+    })
+}
+
+/// The truth that a `#define` gives.
+fn given_truth(file: u32, line: u32, gives: Gives) -> Formula
+    ensures { result ≡ spec.given_truth file line gives }
+{
+    match gives {
+        Gives::Zero => Formula::No,
+        Gives::Nonzero => Formula::Yes,
+        Gives::Free => Formula::Is(Item::Line { file, line }),
+    }
+}
+
+/// The item of a free `#define`.
+fn given_items(alloc: Global, file: u32, line: u32, gives: Gives) -> Result<Vec<Item>, AllocError>
+    ensures { IfOk result (λ items. items.items ≡ spec.given_items file line gives) }
+{
+    match gives {
+        Gives::Zero => Ok(Vec::new(alloc)),
+        Gives::Nonzero => Ok(Vec::new(alloc)),
+        Gives::Free => Ok(vec![in alloc; Item::Line { file, line }]?),
+    }
+}
+
+/// The fact behind a `#define` in a block.
+pub fn define_fact(
+    alloc: Global,
+    file: u32,
+    blocks: &Blocks,
+    name: &Text,
+    turn: u32,
+    block: u32,
+    line: u32,
+    gives: Gives,
+) -> Result<Fact, AllocError>
+    ensures { IfOk result (λ fact. fact ≡ spec.define_fact (source_of file blocks.now) name.now turn block line gives) }
+{
+    let before = Formula::Is(defined_item(file, blocks, name, turn)?);
+    let d = any_of(vec![in alloc; on(file, block), before]?);
+    let before = Formula::Is(true_item(file, blocks, name, turn)?);
+    let given = all_of(vec![in alloc; on(file, block), given_truth(file, line, gives)]?);
+    let kept = all_of(vec![in alloc; off(alloc, file, block)?, before]?);
+    let t = any_of(vec![in alloc; given, kept]?);
+    let more = given_items(alloc, file, line, gives)?;
+    state_fact(alloc, file, blocks, name, turn, block, d, t, &more)
+}
+
+/// The fact behind an `#undef` in a block.
+pub fn undef_fact(
+    alloc: Global,
+    file: u32,
+    blocks: &Blocks,
+    name: &Text,
+    turn: u32,
+    block: u32,
+) -> Result<Fact, AllocError>
+    ensures { IfOk result (λ fact. fact ≡ spec.undef_fact (source_of file blocks.now) name.now turn block) }
+{
+    let before = Formula::Is(defined_item(file, blocks, name, turn)?);
+    let d = all_of(vec![in alloc; off(alloc, file, block)?, before]?);
+    let before = Formula::Is(true_item(file, blocks, name, turn)?);
+    let t = all_of(vec![in alloc; off(alloc, file, block)?, before]?);
+    state_fact(alloc, file, blocks, name, turn, block, d, t, &[])
+}

@@ -1,0 +1,25 @@
+-- The limits of a tree: 65,536 symbols, 1,024 members of one choice, 1,024 defaults of one symbol, and
+-- the first that is passed, in this order. This project's rule.
+use Rattle.std.specs.Prelude.{ℕ, List, [], ◌∷◌, Option, None, Some, if◌then◌else◌, map, length, nat_lt}
+use Rattle.std.specs.Option.{option_or}
+use Rattle.ut_base.specs.declared.limits.Limit.{Limit}
+use Rattle.ut_base.specs.declared.limits.Limit.TheVariants.{Symbols, Members, Defaults}
+use Rattle.kconf_tree.specs.declared.shape.Symbol.{Symbol}
+use Rattle.kconf_tree.specs.declared.shape.Choice.{Choice}
+use Rattle.kconf_tree.specs.declared.limits.Passed.{Passed}
+use Rattle.kconf_tree.specs.Shape.{Shape}
+
+-- a count that passes the limit
+abbrev pub past : Limit → ℕ → ℕ → Option Passed
+past what limit n = if nat_lt limit n then Some (record { what = what; count = n }) else None
+
+-- the first count that passes the limit
+abbrev pub first_past : Limit → ℕ → List ℕ → Option Passed
+first_past what limit [] = None
+first_past what limit (n ∷ ns) = option_or (past what limit n) (first_past what limit ns)
+
+-- symbols first, then the members of each choice, then the defaults of each symbol
+abbrev pub first_passed : Shape → Option Passed
+first_passed t = option_or (past Symbols 65536 (length t.symbols))
+    (option_or (first_past Members 1024 (map (λ (c : Choice). length c.members) t.choices))
+    (first_past Defaults 1024 (map (λ (s : Symbol). length s.defaults) t.symbols)))

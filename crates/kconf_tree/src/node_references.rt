@@ -1,0 +1,232 @@
+ghost use Rattle.std.specs.Prelude.{◌≡◌, ◌<◌, ◌++◌, length, All, OnOk};
+ghost use Rattle.std.specs.List.{flat_map};
+ghost use Rattle.kconf_tree.specs.Shape as shape;
+ghost use Rattle.kconf_tree.specs.References as spec;
+ghost use Rattle.kconf_tree.specs.Links.{AreLinks};
+
+use crate::links::Links;
+use crate::place::Place;
+use crate::references::push;
+use crate::shape::Counts;
+use crate::tree::Tree;
+use kconf_parse::{Kind, SelectOf};
+use sqlite_items::Items;
+use std::alloc::AllocError;
+use ut_logic::Text;
+
+/// What a type counts as, by itself.
+fn counts_alone(kind: Kind) -> Counts
+    ensures { result ≡ shape.counts_alone kind }
+{
+    match kind {
+        Kind::Bool => Counts::Bool,
+        Kind::Tristate => Counts::Tristate,
+        Kind::Str | Kind::Hex | Kind::Int | Kind::Untyped => Counts::Neither,
+    }
+}
+
+/// What a member of this type counts as, in a choice of that type.
+fn counts_in(choice: Counts, kind: Kind) -> Counts
+    ensures { result ≡ shape.counts_in choice kind }
+{
+    match choice {
+        Counts::Tristate => match kind {
+            Kind::Bool => Counts::Bool,
+            _ => Counts::Tristate,
+        },
+        _ => Counts::Bool,
+    }
+}
+
+/// Whether the optional number is this one.
+fn is_the(number: Option<u32>, wanted: u32) -> bool
+    ensures { result ≡ shape.is_the number wanted }
+{
+    match number {
+        None => false,
+        Some(number) => number == wanted,
+    }
+}
+
+/// Adds numbers to a row.
+fn push_all(row: &mut Items<u32>, numbers: &[u32]) -> Result<(), AllocError>
+    ensures { OnOk result (row.new ≡ row.old ++ numbers.now) }
+{
+    for number in numbers {
+        row.push(*number)?;
+    }
+    Ok(())
+}
+
+impl Tree {
+    /// What a symbol counts as by its own type, or by its choice.
+    fn counts_by_type(&self, sym: u32) -> Counts
+        requires { sym < length self.now.shape.symbols }
+        ensures { result ≡ shape.counts_with self.now.shape (shape.symbol_at self.now.shape sym).kind (shape.symbol_at self.now.shape sym).member_of }
+    {
+        match self.member_of(sym) {
+            None => counts_alone(self.kind(sym)),
+            Some(choice) => counts_in(counts_alone(self.choice_kind(choice)), self.kind(sym)),
+        }
+    }
+
+    /// What a symbol counts as; the modules symbol is bool.
+    pub fn counts_as(&self, sym: u32) -> Counts
+        requires { sym < length self.now.shape.symbols }
+        ensures { result ≡ shape.counts_as self.now.shape sym }
+    {
+        match self.modules() {
+            None => self.counts_by_type(sym),
+            Some(modules) => {
+                if modules == sym {
+                    Counts::Bool
+                } else {
+                    self.counts_by_type(sym)
+                }
+            }
+        }
+    }
+
+    /// Adds the modules symbol for what counts as tristate.
+    fn mention_type(&self, counts: Counts, row: &mut Items<u32>) -> Result<(), AllocError>
+        requires { All (λ k. k < length self.now.shape.symbols) row.old }
+        ensures row { OnOk result (row.new ≡ row.old ++ spec.of_type self.now.shape counts) }
+        ensures within { OnOk result (All (λ k. k < length self.now.shape.symbols) row.new) }
+    {
+        match counts {
+            Counts::Tristate => push(row, self.modules()),
+            Counts::Bool | Counts::Neither => Ok(()),
+        }
+    }
+
+    /// Adds a symbol's own references: those of its prompts, defaults and type, and of its places where
+    /// some symbol implies it.
+    fn mention_own(&self, sym: u32, links: &Links, row: &mut Items<u32>) -> Result<(), AllocError>
+        requires sym { sym < length self.now.shape.symbols }
+        requires links { AreLinks self.now.shape links.now }
+        requires within { All (λ k. k < length self.now.shape.symbols) row.old }
+        ensures row { OnOk result (row.new ≡ row.old ++ spec.own_references self.now.shape sym) }
+        ensures within { OnOk result (All (λ k. k < length self.now.shape.symbols) row.new) }
+    {
+        self.mention_each(Place::Condition, self.prompts(sym), row)?;
+        self.mention_defaults(self.defaults(sym), row)?;
+        self.mention_places(sym, links, row)?;
+        self.mention_type(self.counts_as(sym), row)
+    }
+
+    /// Adds the references of a symbol's places, where some symbol implies it.
+    fn mention_places(
+        &self,
+        sym: u32,
+        links: &Links,
+        row: &mut Items<u32>,
+    ) -> Result<(), AllocError>
+        requires sym { sym < length self.now.shape.symbols }
+        requires links { AreLinks self.now.shape links.now }
+        requires within { All (λ k. k < length self.now.shape.symbols) row.old }
+        ensures row { OnOk result (row.new ≡ row.old ++ spec.of_implied self.now.shape (shape.impliers_of self.now.shape sym) (shape.symbol_at self.now.shape sym).places) }
+        ensures within { OnOk result (All (λ k. k < length self.now.shape.symbols) row.new) }
+    {
+        if links.implies[sym as usize].is_empty() {
+            return Ok(());
+        }
+        self.mention_each(Place::Condition, self.places(sym), row)
+    }
+
+    /// Adds the references of a symbol that is no member.
+    pub(crate) fn mention_symbol(
+        &self,
+        sym: u32,
+        links: &Links,
+        row: &mut Items<u32>,
+    ) -> Result<(), AllocError>
+        requires sym { sym < length self.now.shape.symbols }
+        requires links { AreLinks self.now.shape links.now }
+        requires within { All (λ k. k < length self.now.shape.symbols) row.old }
+        ensures row { OnOk result (row.new ≡ row.old ++ spec.symbol_references self.now.shape sym) }
+        ensures within { OnOk result (All (λ k. k < length self.now.shape.symbols) row.new) }
+    {
+        self.mention_own(sym, links, row)?;
+        push_all(row, links.selects[sym as usize].as_slice())?;
+        push_all(row, links.implies[sym as usize].as_slice())
+    }
+
+    /// Adds what a choice default picks, where that is no member of the choice.
+    fn mention_picked(
+        &self,
+        choice: u32,
+        name: &Text,
+        row: &mut Items<u32>,
+    ) -> Result<(), AllocError>
+        requires { All (λ k. k < length self.now.shape.symbols) row.old }
+        ensures row { OnOk result (row.new ≡ row.old ++ spec.picked_outside self.now.shape choice (shape.number_of self.now.shape name.now)) }
+        ensures within { OnOk result (All (λ k. k < length self.now.shape.symbols) row.new) }
+    {
+        match self.symbol(name.text()) {
+            None => Ok(()),
+            Some(sym) => {
+                if is_the(self.member_of(sym), choice) {
+                    Ok(())
+                } else {
+                    row.push(sym)
+                }
+            }
+        }
+    }
+
+    /// Adds the references of a choice's defaults.
+    fn mention_choice_defaults(
+        &self,
+        choice: u32,
+        defaults: &[SelectOf],
+        row: &mut Items<u32>,
+    ) -> Result<(), AllocError>
+        requires { All (λ k. k < length self.now.shape.symbols) row.old }
+        ensures row { OnOk result (row.new ≡ row.old ++ flat_map (spec.of_choice_default self.now.shape choice) defaults.now) }
+        ensures within { OnOk result (All (λ k. k < length self.now.shape.symbols) row.new) }
+    {
+        for default in defaults {
+            self.mention_picked(choice, &default.target, row)?;
+            self.mention(Place::Condition, &default.cond, row)?;
+        }
+        Ok(())
+    }
+
+    /// Adds the own references of members.
+    fn mention_members(
+        &self,
+        members: &[u32],
+        links: &Links,
+        row: &mut Items<u32>,
+    ) -> Result<(), AllocError>
+        requires members { All (λ k. k < length self.now.shape.symbols) members.now }
+        requires links { AreLinks self.now.shape links.now }
+        requires within { All (λ k. k < length self.now.shape.symbols) row.old }
+        ensures row { OnOk result (row.new ≡ row.old ++ flat_map (spec.own_references self.now.shape) members.now) }
+        ensures within { OnOk result (All (λ k. k < length self.now.shape.symbols) row.new) }
+    {
+        for member in members {
+            self.mention_own(*member, links, row)?;
+        }
+        Ok(())
+    }
+
+    /// Adds the references of a choice with its members.
+    pub(crate) fn mention_choice(
+        &self,
+        choice: u32,
+        links: &Links,
+        row: &mut Items<u32>,
+    ) -> Result<(), AllocError>
+        requires choice { choice < length self.now.shape.choices }
+        requires links { AreLinks self.now.shape links.now }
+        requires within { All (λ k. k < length self.now.shape.symbols) row.old }
+        ensures row { OnOk result (row.new ≡ row.old ++ spec.choice_references self.now.shape choice) }
+        ensures within { OnOk result (All (λ k. k < length self.now.shape.symbols) row.new) }
+    {
+        self.mention_each(Place::Condition, self.choice_prompts(choice), row)?;
+        self.mention_choice_defaults(choice, self.choice_defaults(choice), row)?;
+        self.mention_type(counts_alone(self.choice_kind(choice)), row)?;
+        self.mention_members(self.members(choice), links, row)
+    }
+}

@@ -1,0 +1,243 @@
+ghost use Rattle.std.specs.Prelude.{◌≡◌, ◌++◌, IfOk, OnOk};
+ghost use Rattle.std.specs.List.{flat_map};
+ghost use Rattle.std.specs.String.{string_bytes};
+ghost use Rattle.kconf_tree.specs.Value as value;
+ghost use Rattle.kconf_tree.specs.Gathered as spec;
+ghost use Rattle.kconf_tree.specs.Types.{typed, outers_of_default, outers_with};
+ghost use Rattle.kconf_parse.specs.declared.entries.SelectOf as declared;
+ghost use Rattle.kconf_parse.specs.declared.expr.Expr.TheOpen.{Expr-F as step};
+
+use crate::types::Types;
+use indexmap::IndexSet;
+use kconf_parse::{ChoiceEntry, ConfigEntry, DefaultOf, Expr, SelectOf, Side, Sign};
+use std::alloc::{AllocError, Global};
+use ut_logic::{Text, Trit};
+
+/// A sign as it is written.
+fn sign_text(sign: Sign) -> &'static str
+    ensures { result.now ≡ value.sign_text sign }
+{
+    match sign {
+        Sign::Same => "=",
+        Sign::Differ => "!=",
+        Sign::Less => "<",
+        Sign::More => ">",
+        Sign::LessSame => "<=",
+        Sign::MoreSame => ">=",
+    }
+}
+
+/// A constant as it is written.
+fn trit_text(trit: Trit) -> &'static str
+    ensures { result.now ≡ value.trit_text trit }
+{
+    match trit {
+        Trit::N => "n",
+        Trit::M => "m",
+        Trit::Y => "y",
+    }
+}
+
+/// Writes a side as it stands in an outer condition.
+fn push_side(text: &mut String, side: &Side) -> Result<(), AllocError>
+    ensures { OnOk result (string_bytes text.new ≡ string_bytes text.old ++ value.side_text side.now) }
+{
+    match side {
+        Side::Const(trit) => text.push_str(trit_text(*trit)),
+        Side::Name(name) => text.push_str(name.text()),
+        Side::Literal(literal) => text.push_str(literal.text()),
+        Side::Quoted(quoted) => {
+            text.push_str("\"")?;
+            text.push_str(quoted.text())?;
+            text.push_str("\"")
+        }
+    }
+}
+
+/// The text of a comparison that is an outer condition.
+fn comparison_text(alloc: Global, left: &Side, sign: Sign, right: &Side) -> Result<Text, AllocError>
+    ensures { IfOk result (λ t. t ≡ value.comparison_text left.now sign right.now) }
+{
+    let mut text = String::new(alloc);
+    push_side(&mut text, left)?;
+    text.push_str(" ")?;
+    text.push_str(sign_text(sign))?;
+    text.push_str(" ")?;
+    push_side(&mut text, right)?;
+    Text::new(alloc, text.as_str())
+}
+
+/// Adds the text of the comparison where it is an outer condition.
+fn push_comparison(
+    alloc: Global,
+    types: &Types,
+    left: &Side,
+    sign: Sign,
+    right: &Side,
+    texts: &mut Vec<Text>,
+) -> Result<(), AllocError>
+    ensures { OnOk result (texts.new.items ≡ texts.old.items ++ spec.outers_step (typed types.now) (step.Compare left.now sign right.now)) }
+{
+    if types.compares_trits(left, sign, right) {
+        return Ok(());
+    }
+    texts.push(comparison_text(alloc, left, sign, right)?)?;
+    Ok(())
+}
+
+/// Adds the texts of the outer conditions in an expression, in order.
+#[cycle(outers)]
+fn push_outers(
+    alloc: Global,
+    types: &Types,
+    e: &Expr,
+    texts: &mut Vec<Text>,
+) -> Result<(), AllocError>
+    ensures { OnOk result (texts.new.items ≡ texts.old.items ++ spec.outers_in (typed types.now) e.now) }
+{
+    match e {
+        Expr::Const(_) | Expr::Name(_) => Ok(()),
+        Expr::Outer(text) => {
+            texts.push(text.copy(alloc)?)?;
+            Ok(())
+        }
+        Expr::Compare { left, sign, right } => {
+            push_comparison(alloc, types, left, *sign, right, texts)
+        }
+        Expr::Neg(inner) => push_outers(alloc, types, inner.get(), texts),
+        Expr::And(list) => push_each(alloc, types, list.as_slice(), texts),
+        Expr::Or(list) => push_each(alloc, types, list.as_slice(), texts),
+    }
+}
+
+/// Adds those of each expression.
+#[cycle(outers)]
+fn push_each(
+    alloc: Global,
+    types: &Types,
+    list: &[Expr],
+    texts: &mut Vec<Text>,
+) -> Result<(), AllocError>
+    ensures { OnOk result (texts.new.items ≡ texts.old.items ++ flat_map (spec.outers_in (typed types.now)) list.now) }
+{
+    for e in list {
+        push_outers(alloc, types, e, texts)?;
+    }
+    Ok(())
+}
+
+/// Adds those of defaults, the value before the condition.
+fn push_defaults(
+    alloc: Global,
+    types: &Types,
+    defaults: &[DefaultOf],
+    texts: &mut Vec<Text>,
+) -> Result<(), AllocError>
+    ensures { OnOk result (texts.new.items ≡ texts.old.items ++ flat_map (outers_of_default (typed types.now)) defaults.now) }
+{
+    for default in defaults {
+        push_outers(alloc, types, &default.value, texts)?;
+        push_outers(alloc, types, &default.cond, texts)?;
+    }
+    Ok(())
+}
+
+/// Adds those of the conditions of selects, implies or choice defaults.
+fn push_conditions(
+    alloc: Global,
+    types: &Types,
+    selects: &[SelectOf],
+    texts: &mut Vec<Text>,
+) -> Result<(), AllocError>
+    ensures { OnOk result (texts.new.items ≡ texts.old.items ++ flat_map (λ (s : declared.SelectOf). spec.outers_in (typed types.now) s.cond) selects.now) }
+{
+    for select in selects {
+        push_outers(alloc, types, &select.cond, texts)?;
+    }
+    Ok(())
+}
+
+/// Adds those of a config, in the order of its properties.
+fn push_config(
+    alloc: Global,
+    types: &Types,
+    config: &ConfigEntry,
+    texts: &mut Vec<Text>,
+) -> Result<(), AllocError>
+    ensures { OnOk result (texts.new.items ≡ texts.old.items ++ spec.outers_of_config (typed types.now) config.now) }
+{
+    push_outers(alloc, types, &config.depends, texts)?;
+    push_each(alloc, types, config.prompts.as_slice(), texts)?;
+    push_defaults(alloc, types, config.defaults.as_slice(), texts)?;
+    push_conditions(alloc, types, config.selects.as_slice(), texts)?;
+    push_conditions(alloc, types, config.implies.as_slice(), texts)
+}
+
+/// Adds those of a choice.
+fn push_choice(
+    alloc: Global,
+    types: &Types,
+    choice: &ChoiceEntry,
+    texts: &mut Vec<Text>,
+) -> Result<(), AllocError>
+    ensures { OnOk result (texts.new.items ≡ texts.old.items ++ spec.outers_of_choice (typed types.now) choice.now) }
+{
+    push_each(alloc, types, choice.prompts.as_slice(), texts)?;
+    push_conditions(alloc, types, choice.defaults.as_slice(), texts)
+}
+
+/// Adds those of all configs.
+fn push_configs(
+    alloc: Global,
+    types: &Types,
+    configs: &[ConfigEntry],
+    texts: &mut Vec<Text>,
+) -> Result<(), AllocError>
+    ensures { OnOk result (texts.new.items ≡ texts.old.items ++ flat_map (spec.outers_of_config (typed types.now)) configs.now) }
+{
+    for config in configs {
+        push_config(alloc, types, config, texts)?;
+    }
+    Ok(())
+}
+
+/// Adds those of all choices.
+fn push_choices(
+    alloc: Global,
+    types: &Types,
+    choices: &[ChoiceEntry],
+    texts: &mut Vec<Text>,
+) -> Result<(), AllocError>
+    ensures { OnOk result (texts.new.items ≡ texts.old.items ++ flat_map (spec.outers_of_choice (typed types.now)) choices.now) }
+{
+    for choice in choices {
+        push_choice(alloc, types, choice, texts)?;
+    }
+    Ok(())
+}
+
+/// The texts of a list, each at its first place.
+fn distinct(alloc: Global, texts: Vec<Text>) -> Result<IndexSet<Text>, AllocError>
+    ensures { IfOk result (λ s. s.keys ≡ spec.once texts.items) }
+{
+    let mut set = IndexSet::new(alloc);
+    for text in texts {
+        set.insert(text)?;
+    }
+    Ok(set)
+}
+
+/// The outer conditions in the entries, by first appearance. The only error is want of memory.
+pub fn outers(
+    alloc: Global,
+    types: &Types,
+    configs: &[ConfigEntry],
+    choices: &[ChoiceEntry],
+) -> Result<IndexSet<Text>, AllocError>
+    ensures { IfOk result (λ s. s.keys ≡ outers_with (typed types.now) configs.now choices.now) }
+{
+    let mut texts = Vec::new(alloc);
+    push_configs(alloc, types, configs, &mut texts)?;
+    push_choices(alloc, types, choices, &mut texts)?;
+    distinct(alloc, texts)
+}
