@@ -102,7 +102,7 @@ fn facts(alloc: Global, blocks: &Blocks) -> Result<Facts, AllocError> {
 }
 
 /// The least of five rounds.
-fn timed(rt: &HostRuntime, count: u32) -> io::Result<Option<Timed>> {
+fn measured(rt: &HostRuntime, count: u32) -> io::Result<Option<Timed>> {
     let alloc = rt.alloc();
     let mut least: Option<Timed> = None;
     for _ in 0..5u8 {
@@ -130,7 +130,7 @@ fn timed(rt: &HostRuntime, count: u32) -> io::Result<Option<Timed>> {
 }
 
 fn main(rt: HostRuntime) -> io::Result<()> {
-    let (Some(few), Some(many)) = (timed(&rt, 6_000)?, timed(&rt, 60_000)?) else {
+    let (Some(few), Some(many)) = (measured(&rt, 6_000)?, measured(&rt, 60_000)?) else {
         return Ok(());
     };
     println!(rt; "{} {} {} {}", few.micros, few.facts, many.micros, many.facts)?;
