@@ -237,7 +237,10 @@ pub fn define_fact(
     let before = Formula::Is(defined_item(source, at.name, at.turn)?);
     let d = any_of(vec![in alloc; on(source.file, at.block), before]?);
     let before = Formula::Is(true_item(source, at.name, at.turn)?);
-    let given = all_of(vec![in alloc; on(source.file, at.block), given_truth(source.file, line, gives)]?);
+    let given = all_of(vec![in alloc;
+        on(source.file, at.block),
+        given_truth(source.file, line, gives),
+    ]?);
     let kept = all_of(vec![in alloc; off(alloc, source.file, at.block)?, before]?);
     let t = any_of(vec![in alloc; given, kept]?);
     let more = given_items(alloc, source.file, line, gives)?;
