@@ -16,7 +16,7 @@ use Rattle.kconf_parse.specs.HelpTexts.{help_count, indented_count, indentation,
 use Rattle.kconf_parse.specs.Entries.{Progress}
 use Rattle.kconf_parse.specs.Texts.{TextOf, Sources, Behind, Reading, refused, at_line, at_end, stepped, read_lines}
 use Rattle.kconf_parse.specs.LineParts.{Fails}
-use Rattle.kconf_parse.specs.TextReading.{TextLeft, left_of, left_read, LeadsTo, GoesOn, IsPassed, ReadsUp, ReadsOn, Refuses, Ends}
+use Rattle.kconf_parse.specs.TextReading.{TextLeft, left_of, left_read, LeadsTo, GoesOn, IsPassed, ReadsUp, Refuses}
 use Rattle.kconf_parse.proofs.LogicalLinesLemmas.{behind-behind}
 use Rattle.kconf_parse.proofs.TextLemmas.{line_leads, help_leads, text_leads, fault_leads}
 
@@ -66,10 +66,6 @@ help_within ls =
 left_length : (k : ℕ) (left now : LinesLeft) → now ≡ behind_lines k left → length now.lines ≡ length left.lines - k
 left_length k left now e = ap (λ x. length x.lines) e ∙ length-drop k left.lines
 
--- fewer lines are left
-pub fewer_left : (old now : LinesLeft) → IsPassed old now → length now.lines < length old.lines
-fewer_left old now h = omega (arith, h.some, h.within, left_length h.count old now h.left)
-
 -- the lines of a line and of its help text are passed
 line_passed : (old new : LinesLeft) (line : LogicalLine) → IsFirstLine old line new → IsPassed old new
 line_passed old new line first = record {
@@ -94,47 +90,6 @@ module _ (vars : List Var) (root : List ℕ) where
     pub within : count ≤ length old.left.lines
     pub left : now ≡ behind_lines count old.left
     pub goes : GoesOn vars root old p now q
-
-  -- before the first line that is left
-  pub starts : (old : TextLeft) (p : Progress) → Passed old p old.left p
-  starts old p = record {
-    count = 0;
-    within = omega arith;
-    left = λ i. record { number = sym (add-zero old.left.number) i; lines = old.left.lines };
-    goes = λ sources used behind. refl;
-  }
-
-  -- behind one more line
-  pub passes_on : (old : TextLeft) (p : Progress) (now : LinesLeft) (q : Progress) (new : LinesLeft) (r : Progress)
-      → Passed old p now q → IsPassed now new → GoesOn vars root (left_of old.text now) q new r → Passed old p new r
-  passes_on old p now q new r h s g = record {
-    count = h.count + s.count;
-    within = omega (arith, h.within, s.within, left_length h.count old.left now h.left);
-    left = s.left ∙ ap (behind_lines s.count) h.left ∙ behind-behind s.count h.count old.left;
-    goes = λ sources used behind. h.goes sources used behind ∙ g sources used behind;
-  }
-
-  -- where the text stops behind the lines that are passed
-  pub stops : (old : TextLeft) (p : Progress) (now : LinesLeft) (q : Progress) (result : Result TextStop KconfBad) (new : LinesLeft) (r : Progress)
-      → Passed old p now q → ReadsUp vars root (left_of old.text now) q result new r → ReadsUp vars root old p result new r
-  stops old p now q (Ok stop.End) new r h g = λ sources used behind. h.goes sources used behind ∙ g sources used behind
-  stops old p now q (Ok (stop.Source file line)) new r h g = (
-    record {
-      count = h.count + g.0.count;
-      some = omega (arith, g.0.some);
-      within = omega (arith, h.within, g.0.within, left_length h.count old.left now h.left);
-      left = g.0.left ∙ ap (behind_lines g.0.count) h.left ∙ behind-behind g.0.count h.count old.left;
-    },
-    λ sources used behind. h.goes sources used behind ∙ g.1 sources used behind,
-  )
-  stops old p now q (Err refusal.Oom) new r h g = tt
-  stops old p now q (Err (refusal.Syntax file line kind)) new r h g = λ sources used behind. h.goes sources used behind ∙ g sources used behind
-  stops old p now q (Err (refusal.NotYet file line)) new r h g = λ sources used behind. h.goes sources used behind ∙ g sources used behind
-  stops old p now q (Err (refusal.Missing file)) new r h g = λ sources used behind. h.goes sources used behind ∙ g sources used behind
-  stops old p now q (Err (refusal.ReadFault file)) new r h g = λ sources used behind. h.goes sources used behind ∙ g sources used behind
-  stops old p now q (Err (refusal.Macro file line)) new r h g = λ sources used behind. h.goes sources used behind ∙ g sources used behind
-  stops old p now q (Err (refusal.Depth file line what)) new r h g = λ sources used behind. h.goes sources used behind ∙ g sources used behind
-  stops old p now q (Err (refusal.TooLarge what count)) new r h g = λ sources used behind. h.goes sources used behind ∙ g sources used behind
 
   -- what the first line says, by its own number and bytes
   said : (t : TextOf) (old : LinesLeft) (p : Progress) (new : LinesLeft) (line : LogicalLine) → IsFirstLine old line new
@@ -203,55 +158,3 @@ module _ (vars : List Var) (root : List ℕ) where
   pub by_end : (t : TextOf) (old : LinesLeft) (p : Progress) → old.lines ≡ []
       → LeadsTo vars root (left_of t old) p (λ sources used behind. at_end t p used behind)
   by_end t old p none = λ sources used behind. ap (λ ls. read_lines vars root sources t old.number 0 ls p used behind) none
-
-  -- reading a text up to a `source` line passes the lines before it and this one
-  pub source_on : (old : TextLeft) (p : Progress) (file : List ℕ) (line : ℕ) (now : LinesLeft) (q : Progress) (passed : ℕ) (new : TextLeft)
-      → ReadsUp vars root old p (Ok (stop.Source file line)) now q → passed ≡ now.number - old.left.number
-      → new.text ≡ old.text → new.left ≡ behind_lines passed old.left → ReadsOn vars root old p (Ok (stop.Source file line)) new q
-  source_on old p file line now q passed new h number text left =
-      let count : passed ≡ h.0.count = omega (arith, number, ap (λ x. x.number) h.0.left) in
-      let same : new.left ≡ now = left ∙ ap (λ k. behind_lines k old.left) count ∙ sym h.0.left in
-      (
-        text,
-        subst (λ x. length x.lines < length old.left.lines) (sym same) (fewer_left old.left now h.0),
-        λ sources used behind.
-            h.1 sources used behind
-            ∙ ap (λ x. sources old.text line file q used (λ r used. left_read vars root sources x r used behind)) (λ i. record { text = sym text i; left = sym same i }),
-      )
-
-  -- the number of lines that are passed
-  pub passed_within : (old : TextLeft) (p : Progress) (file : List ℕ) (line : ℕ) (now : LinesLeft) (q : Progress)
-      → ReadsUp vars root old p (Ok (stop.Source file line)) now q
-      → (old.left.number ≤ now.number) × (now.number - old.left.number ≤ length old.left.lines)
-  passed_within old p file line now q h =
-      let number : now.number ≡ old.left.number + h.0.count = ap (λ x. x.number) h.0.left in
-      (omega arith, omega (arith, h.0.within))
-
-  -- the end of a text, where each opener of it has its end word
-  pub end_on : (old : TextLeft) (p : Progress) (now : LinesLeft) (q r : Progress) (new : TextLeft) (A : Type 0) (x : A)
-      → ReadsUp vars root old p (Ok stop.End) now q → Ends {A = A} old.text q (Ok x) r → ReadsOn vars root old p (Ok stop.End) new r
-  end_on old p now q r new A x h e = λ sources used behind. h sources used behind ∙ e used behind
-
-  -- or where one has none
-  pub end_refuses : (old : TextLeft) (p : Progress) (now : LinesLeft) (q r : Progress) (new : TextLeft) (A : Type 0) (e : KconfBad)
-      → ReadsUp vars root old p (Ok stop.End) now q → Ends {A = A} old.text q (Err e) r → ReadsOn vars root old p (Err e) new r
-  end_refuses old p now q r new A refusal.Oom h e = tt
-  end_refuses old p now q r new A (refusal.Syntax file line kind) h e = λ sources used behind. h sources used behind ∙ e used behind
-  end_refuses old p now q r new A (refusal.NotYet file line) h e = λ sources used behind. h sources used behind ∙ e used behind
-  end_refuses old p now q r new A (refusal.Missing file) h e = λ sources used behind. h sources used behind ∙ e used behind
-  end_refuses old p now q r new A (refusal.ReadFault file) h e = λ sources used behind. h sources used behind ∙ e used behind
-  end_refuses old p now q r new A (refusal.Macro file line) h e = λ sources used behind. h sources used behind ∙ e used behind
-  end_refuses old p now q r new A (refusal.Depth file line what) h e = λ sources used behind. h sources used behind ∙ e used behind
-  end_refuses old p now q r new A (refusal.TooLarge what count) h e = λ sources used behind. h sources used behind ∙ e used behind
-
-  -- a line with a fault
-  pub fault_on : (old : TextLeft) (p : Progress) (e : KconfBad) (now : LinesLeft) (q : Progress) (new : TextLeft)
-      → ReadsUp vars root old p (Err e) now q → ReadsOn vars root old p (Err e) new q
-  fault_on old p refusal.Oom now q new h = tt
-  fault_on old p (refusal.Syntax file line kind) now q new h = h
-  fault_on old p (refusal.NotYet file line) now q new h = h
-  fault_on old p (refusal.Missing file) now q new h = h
-  fault_on old p (refusal.ReadFault file) now q new h = h
-  fault_on old p (refusal.Macro file line) now q new h = h
-  fault_on old p (refusal.Depth file line what) now q new h = h
-  fault_on old p (refusal.TooLarge what count) now q new h = h
