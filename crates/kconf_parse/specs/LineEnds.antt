@@ -16,3 +16,8 @@ line_len (b ∷ s) = if ends_line (b ∷ s) then 0 else suc (line_len s)
 abbrev pub behind_end : List ℕ → List ℕ
 behind_end [] = []
 behind_end (b ∷ s) = if b == 10 then s else if b == 13 && begins_newline s then drop 1 s else b ∷ s
+
+-- how many bytes the line end takes that a text begins with
+abbrev pub end_size : List ℕ → ℕ
+end_size [] = 0
+end_size (b ∷ s) = if b == 10 then 1 else if b == 13 && begins_newline s then 2 else 0

@@ -1,4 +1,4 @@
-ghost use Rattle.std.specs.Prelude.{◌≡◌, IfOk};
+ghost use Rattle.std.specs.Prelude.{◌≡◌, ◌++◌, IfOk, OnOk};
 ghost use Rattle.kconf_parse.specs.Joined as spec;
 
 use crate::expr::Expr;
@@ -6,8 +6,8 @@ use sqlite_items::Items;
 use std::alloc::{AllocError, Global};
 use ut_logic::{Text, Trit};
 
-/// One condition of these, which are no constants and no lists.
-fn joined(mut list: Vec<Expr>) -> Expr
+/// One condition of these members.
+pub fn joined(mut list: Vec<Expr>) -> Expr
     ensures { result ≡ spec.joined list.items }
 {
     if list.len() > 1 {
@@ -16,6 +16,30 @@ fn joined(mut list: Vec<Expr>) -> Expr
     match list.pop() {
         Some(only) => only,
         None => Expr::Const(Trit::Y),
+    }
+}
+
+/// Appends copies of these expressions.
+pub fn push_each(alloc: Global, list: &mut Vec<Expr>, more: &[Expr]) -> Result<(), AllocError>
+    ensures { OnOk result (list.new.items ≡ list.old.items ++ more.now) }
+{
+    for expr in more {
+        list.push(expr.copy(alloc)?)?;
+    }
+    Ok(())
+}
+
+/// Appends copies of what a condition brings to a joined one: nothing for y, the members of an And list.
+pub fn push_members(alloc: Global, list: &mut Vec<Expr>, condition: &Expr) -> Result<(), AllocError>
+    ensures { OnOk result (list.new.items ≡ list.old.items ++ spec.members_of condition.now) }
+{
+    match condition {
+        Expr::Const(Trit::Y) => Ok(()),
+        Expr::And(more) => push_each(alloc, list, more.as_slice()),
+        one => {
+            list.push(one.copy(alloc)?)?;
+            Ok(())
+        }
     }
 }
 

@@ -6,21 +6,65 @@
 //! A contract sees a text as its bytes and an entry with its expressions as plain data.
 #![tactic(auto)]
 
+mod attributes;
 mod bad;
+mod conditions;
+mod ended_entries;
 mod entries;
+mod entry_lines;
 mod expr;
+mod expression_ends;
+mod expression_laws;
+mod expression_lists;
+mod expression_reader;
 mod first_file;
 mod first_form;
 mod first_laws;
 mod first_lines;
+mod follows;
+mod help_texts;
 mod joined;
+mod keywords;
+mod line_bad;
+mod line_parts;
+mod line_words;
 mod lines;
+mod logical_lines;
+mod open_text;
+mod open_texts;
+mod operands;
+mod progress;
+mod roles;
+mod statement;
+mod statements;
+mod tree_file;
+mod values;
+mod word_ends;
+mod word_kinds;
+mod word_texts;
+mod words;
 
 pub use bad::{KconfBad, SyntaxKind};
 pub use entries::{ChoiceEntry, ConfigEntry, DefaultOf, Entries, Kind, SelectOf, Var};
 pub use expr::{Expr, Side, Sign};
+pub use expression_laws::expressions_follow_the_grammar;
 pub use first_file::first_tree;
 pub use first_laws::first_bad_line_is_named;
+pub use tree_file::read_tree;
 
+#[cfg(test)]
+mod entry_tests;
+#[cfg(test)]
+mod fault_tests;
+#[cfg(test)]
+mod line_tests;
+#[cfg(test)]
+mod place_tests;
+#[cfg(test)]
+mod readings;
+#[cfg(test)]
+mod shown;
+#[cfg(test)]
+mod source_tests;
 #[cfg(test)]
 mod tests;

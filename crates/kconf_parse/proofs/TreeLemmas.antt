@@ -1,0 +1,230 @@
+-- Laws of reading the open texts: how many bytes are taken where it breaks off, and what a turn leads to.
+use Rattle.std.proofs.Common.{◌≡◌, ◌<◌, ◌≤◌, ◌+◌, ◌-◌, ◌*◌, ◌^◌, ◌++◌, ℕ, suc, zero, Bool, true, false, Option, None, Some, List, [], ◌∷◌, length, map, Contains, Result, Ok, Err, if◌then◌else◌, nat_lt, refl, ap, sym, subst, ◌∙◌, inl, inr, arith}
+use Rattle.std.proofs.lemmas.List.Elements.{Contains-append_left, Contains-append_right}
+use Rattle.std.specs.FinMap.{get}
+use Rattle.ut_base.specs.Outside.{Held, IsLonger}
+use Rattle.ut_base.specs.declared.limits.Limit.TheVariants as limit
+use Rattle.kconf_parse.specs.declared.bad.KconfBad.{KconfBad}
+use Rattle.kconf_parse.specs.declared.bad.KconfBad.TheVariants as bad
+use Rattle.kconf_parse.specs.declared.entries.Var.{Var}
+use Rattle.kconf_parse.specs.declared.line_bad.LineBad.{LineBad}
+use Rattle.kconf_parse.specs.declared.follows.Follows.{Follows}
+use Rattle.kconf_parse.specs.declared.follows.Follows.TheVariants as next
+use Rattle.std.proofs.lemmas.Bool.{true≢false, cond-true, cond-false, le-ltb, lt-ltb}
+use Rattle.kconf_parse.specs.Lines.{lines_of}
+use Rattle.kconf_parse.specs.Entries.{Progress, at_start, line_of_opener, ending}
+use Rattle.kconf_parse.specs.LogicalLines.{joined_count, joined_text}
+use Rattle.kconf_parse.specs.Texts.{TextOf, Sources, Behind, Reading, refused, all_read, asking, at_line, at_end, closed_by, lines_taken, line_read, behind_line, stepped, read_lines, file_read, read_file, sourced, reading}
+use Rattle.kconf_parse.specs.TextReading.{TextLeft, LeadsTo, IsOfLine, ReadsOn, left_read, resumed, rest_read}
+use Rattle.kconf_parse.specs.OpenTexts.{TextsLeft, Leaves, Opens, Taken, root_alone, entered, ahead, goes_on, Turns}
+use Rattle.kconf_parse.specs.TreeFile.{amounts, FailsFrom}
+
+-- the bytes taken so far are those at which the reading may break off
+abbrev pub Holds : Reading → ℕ → Type 0
+Holds r used = Contains (amounts r) used
+
+refused_holds : (used : ℕ) (e : KconfBad) → Holds (refused used e) used
+refused_holds used e = (0, omega arith, refl)
+
+-- so it is along the lines of a text, where it is so for what they source and for what is behind it
+lines_hold : (vars : List Var) (root : List ℕ) (sources : Sources) (t : TextOf)
+    → ((t : TextOf) (n : ℕ) (file : List ℕ) (p : Progress) (used : ℕ) (behind : Behind) → Holds (sources t n file p used behind) used)
+    → (behind : Behind) → ((p : Progress) (used : ℕ) → Holds (behind p used) used)
+    → (n k : ℕ) (ls : List (List ℕ)) (p : Progress) (used : ℕ) → Holds (read_lines vars root sources t n k ls p used behind) used
+lines_hold vars root sources t s behind b n k [] p used = by (line_of_opener p.openers t.floor)
+  where
+    by : (o : Option ℕ) → Holds (closed_by t p used behind o) used
+    by None = b (ending p) used
+    by (Some line) = refused_holds used _
+lines_hold vars root sources t s behind b n (suc k) (l ∷ ls) p used = lines_hold vars root sources t s behind b (suc n) k ls p used
+lines_hold vars root sources t s behind b n zero (l ∷ ls) p used =
+    by (stepped vars root t.floor n p (joined_text (l ∷ ls))) (λ k q used. lines_hold vars root sources t s behind b (suc n) k ls q used)
+  where
+    then_lines : Follows → Behind
+    then_lines f p used = read_lines vars root sources t (suc n) (lines_taken f (joined_count (l ∷ ls) - 1) ls) ls p used behind
+
+    by : (r : Result (Follows × Progress) LineBad)
+        → ((k : ℕ) (q : Progress) (used : ℕ) → Holds (read_lines vars root sources t (suc n) k ls q used behind) used)
+        → Holds (line_read sources t n used (λ f p used. read_lines vars root sources t (suc n) (lines_taken f (joined_count (l ∷ ls) - 1) ls) ls p used behind) r) used
+    by (Err e) h = refused_holds used _
+    by (Ok (next.Text file, q)) h = s t n file q used _
+    by (Ok (next.Line, q)) h = h _ q used
+    by (Ok (next.Help, q)) h = h _ q used
+
+module _ (vars : List Var) (root : List ℕ) (held : Held) where
+  sourced_holds : (depth : ℕ) (t : TextOf) (n : ℕ) (file : List ℕ) (p : Progress) (used : ℕ) (behind : Behind) → Holds (sourced vars root held depth t n file p used behind) used
+  sourced_holds zero t n file p used behind = refused_holds used _
+  sourced_holds (suc depth) t n file p used behind = (0, omega arith, refl)
+
+  resumed_holds : (ts : List TextLeft) (p : Progress) (used : ℕ) → Holds (resumed vars root held ts p used) used
+  resumed_holds [] p used = (0, omega arith, refl)
+  resumed_holds (t ∷ ts) p used = lines_hold vars root (sourced vars root held (64 - length ts)) t.text (sourced_holds (64 - length ts)) (resumed vars root held ts) (resumed_holds ts) t.left.number 0 t.left.lines p used
+
+  -- the bytes taken so far are among those at which reading may break off
+  pub goes_on_holds : (texts : TextsLeft) (p : Progress) (used : ℕ) → Holds (goes_on vars root held texts p used) used
+  goes_on_holds texts p used = resumed_holds (texts.text ∷ texts.sourcing) p used
+
+  -- reading that leads to other reading behind files that were asked for breaks off where that does
+  fails_ahead : (front : List (List ℕ × ℕ)) (r : Reading) (now : ℕ) (e : KconfBad) → FailsFrom r now e → FailsFrom (ahead front r) now e
+  fails_ahead front r now (bad.ReadFault file) h = Contains-append_right front r.asked (file, now) h
+  fails_ahead front r now bad.Oom h = subst (λ xs. Contains xs now) (amounts_ahead front r.asked) (Contains-append_right (map (λ a. a.1) front) (amounts r) now h)
+    where
+      amounts_ahead : (front asked : List (List ℕ × ℕ)) → map (λ a. a.1) front ++ (map (λ a. a.1) asked ++ r.used ∷ []) ≡ map (λ a. a.1) (front ++ asked) ++ r.used ∷ []
+      amounts_ahead [] asked = refl
+      amounts_ahead (f ∷ front) asked = ap (λ xs. f.1 ∷ xs) (amounts_ahead front asked)
+  fails_ahead front r now (bad.Syntax file line k) h = h
+  fails_ahead front r now (bad.NotYet file line) h = h
+  fails_ahead front r now (bad.Missing file) h = h
+  fails_ahead front r now (bad.Macro file line) h = h
+  fails_ahead front r now (bad.Depth file line what) h = h
+  fails_ahead front r now (bad.TooLarge what count) h = h
+
+  -- a line's refusal ends the reading
+  fails_of_line : (used : ℕ) (e : KconfBad) → IsOfLine e → FailsFrom (refused used e) used e
+  fails_of_line used (bad.ReadFault file) h = absurd h
+  fails_of_line used (bad.Missing file) h = absurd h
+  fails_of_line used (bad.TooLarge what count) h = absurd h
+  fails_of_line used bad.Oom h = (0, omega arith, refl)
+  fails_of_line used (bad.Syntax file line k) h = (refl, refl)
+  fails_of_line used (bad.NotYet file line) h = (refl, refl)
+  fails_of_line used (bad.Macro file line) h = (refl, refl)
+  fails_of_line used (bad.Depth file line what) h = (refl, refl)
+
+  -- a refusal in the text that is read
+  pub turn_refused : (texts new : TextsLeft) (p q : Progress) (used : ℕ) (e : KconfBad) → IsOfLine e
+      → ReadsOn vars root texts.text p (Err e) new.text q → FailsFrom (goes_on vars root held texts p used) used e
+  turn_refused texts new p q used (bad.ReadFault file) own h = absurd own
+  turn_refused texts new p q used (bad.Missing file) own h = absurd own
+  turn_refused texts new p q used (bad.TooLarge what count) own h = absurd own
+  turn_refused texts new p q used bad.Oom own h = goes_on_holds texts p used
+  turn_refused texts new p q used (bad.Syntax file line k) own h = subst (λ r. FailsFrom r used (bad.Syntax file line k)) (sym (h (sourced vars root held (64 - length texts.sourcing)) used (resumed vars root held texts.sourcing))) (refl, refl)
+  turn_refused texts new p q used (bad.NotYet file line) own h = subst (λ r. FailsFrom r used (bad.NotYet file line)) (sym (h (sourced vars root held (64 - length texts.sourcing)) used (resumed vars root held texts.sourcing))) (refl, refl)
+  turn_refused texts new p q used (bad.Macro file line) own h = subst (λ r. FailsFrom r used (bad.Macro file line)) (sym (h (sourced vars root held (64 - length texts.sourcing)) used (resumed vars root held texts.sourcing))) (refl, refl)
+  turn_refused texts new p q used (bad.Depth file line what) own h = subst (λ r. FailsFrom r used (bad.Depth file line what)) (sym (h (sourced vars root held (64 - length texts.sourcing)) used (resumed vars root held texts.sourcing))) (refl, refl)
+
+  -- the end of a text: the sourcing text goes on, or all is read
+  pub turn_ended : {A : Type 0} (texts mid new : TextsLeft) (p q : Progress) (used : ℕ) (left : Option A)
+      → LeadsTo vars root texts.text p (λ sources used behind. behind q used) → mid.sourcing ≡ texts.sourcing → Leaves mid left new
+      → Turns vars root held texts p used (Ok left) new q used
+  turn_ended texts mid new p q used None leads same h =
+      leads (sourced vars root held (64 - length texts.sourcing)) used (resumed vars root held texts.sourcing)
+      ∙ ap (λ ts. resumed vars root held ts q used) (sym same ∙ h.0)
+  turn_ended texts mid new p q used (Some x) leads same h = (
+    [],
+    leads (sourced vars root held (64 - length texts.sourcing)) used (resumed vars root held texts.sourcing)
+        ∙ ap (λ ts. resumed vars root held ts q used) (sym same ∙ h),
+  )
+
+  -- at a `source` line: the reading of the file, and behind it what is left of the open texts
+  to_file : (texts mid : TextsLeft) (p q : Progress) (used line : ℕ) (file : List ℕ) (stop : mid.sourcing ≡ texts.sourcing)
+      → LeadsTo vars root texts.text p (λ sources used behind. sources texts.text.text line file q used (λ r now. left_read vars root sources mid.text r now behind))
+      → goes_on vars root held texts p used
+      ≡ sourced vars root held (64 - length mid.sourcing) texts.text.text line file q used (resumed vars root held (mid.text ∷ mid.sourcing))
+  to_file texts mid p q used line file same leads =
+      leads (sourced vars root held (64 - length texts.sourcing)) used (resumed vars root held texts.sourcing)
+      ∙ ap (λ ts. sourced vars root held (64 - length ts) texts.text.text line file q used (resumed vars root held (mid.text ∷ ts))) (sym same)
+
+  -- a `source` line too deep
+  pub turn_too_deep : (texts mid : TextsLeft) (p q : Progress) (used line : ℕ) (file : List ℕ) (e : KconfBad)
+      → mid.sourcing ≡ texts.sourcing → 64 ≤ length mid.sourcing
+      → LeadsTo vars root texts.text p (λ sources used behind. sources texts.text.text line file q used (λ r now. left_read vars root sources mid.text r now behind))
+      → (e ≡ bad.Oom) ⊎ (e ≡ bad.Depth texts.text.text.name line limit.SourceDepth)
+      → FailsFrom (goes_on vars root held texts p used) used e
+  turn_too_deep texts mid p q used line file e same deep leads (inl is) = subst (FailsFrom (goes_on vars root held texts p used) used) (sym is) (goes_on_holds texts p used)
+  turn_too_deep texts mid p q used line file e same deep leads (inr is) =
+      let none : 64 - length mid.sourcing ≡ 0 = omega arith in
+      let leads_here = to_file texts mid p q used line file same leads
+      ∙ ap (λ d. sourced vars root held d texts.text.text line file q used (resumed vars root held (mid.text ∷ mid.sourcing))) none in
+      subst (FailsFrom (goes_on vars root held texts p used) used) (sym is)
+      (subst (λ r. FailsFrom r used (bad.Depth texts.text.text.name line limit.SourceDepth)) (sym leads_here) (refl, refl))
+
+  -- a file is read where its bytes are within the limits
+  file_taken : (sources : Sources) (name : List ℕ) (p : Progress) (used : ℕ) (behind : Behind) (content : Option (List ℕ)) (bytes : List ℕ)
+      → content ≡ Some bytes → length bytes ≤ 16777216 → used + length bytes ≤ 536870912
+      → file_read vars root held sources name p used behind content
+      ≡ read_lines vars root sources (record { name = name; floor = length p.openers }) 1 0 (lines_of bytes) p (used + length bytes) behind
+  file_taken sources name p used behind content bytes is file all =
+      ap (file_read vars root held sources name p used behind) is ∙ both _ _ (le-ltb 16777216 (length bytes) file) (le-ltb 536870912 (used + length bytes) all)
+    where
+      both : (a b : Bool) → a ≡ false → b ≡ false
+          → (if a then refused used (bad.TooLarge limit.FileBytes 16777217) else if b then refused used (bad.TooLarge limit.AllBytes (used + length bytes))
+          else read_lines vars root sources (record { name = name; floor = length p.openers }) 1 0 (lines_of bytes) p (used + length bytes) behind)
+          ≡ read_lines vars root sources (record { name = name; floor = length p.openers }) 1 0 (lines_of bytes) p (used + length bytes) behind
+      both true b h k = absurd (true≢false h)
+      both false true h k = absurd (true≢false k)
+      both false false h k = refl
+
+  file_long : (sources : Sources) (name : List ℕ) (p : Progress) (used : ℕ) (behind : Behind) (content : Option (List ℕ)) (bytes : List ℕ)
+      → content ≡ Some bytes → 16777216 < length bytes
+      → file_read vars root held sources name p used behind content ≡ refused used (bad.TooLarge limit.FileBytes 16777217)
+  file_long sources name p used behind content bytes is long =
+      ap (file_read vars root held sources name p used behind) is ∙ cond-true _ _ _ (lt-ltb 16777216 (length bytes) long)
+
+  file_last : (sources : Sources) (name : List ℕ) (p : Progress) (used : ℕ) (behind : Behind) (content : Option (List ℕ)) (bytes : List ℕ)
+      → content ≡ Some bytes → length bytes ≤ 16777216 → 536870912 < used + length bytes
+      → file_read vars root held sources name p used behind content ≡ refused used (bad.TooLarge limit.AllBytes (used + length bytes))
+  file_last sources name p used behind content bytes is file long =
+      ap (file_read vars root held sources name p used behind) is
+      ∙ cond-false _ _ _ (le-ltb 16777216 (length bytes) file) ∙ cond-true _ _ _ (lt-ltb 536870912 (used + length bytes) long)
+
+  -- a file that is not opened ends the reading
+  pub file_refused : (sources : Sources) (name : List ℕ) (floor : ℕ) (p : Progress) (used now : ℕ) (behind : Behind) (e : KconfBad)
+      → Opens name floor (get held name) used now (Err e)
+      → FailsFrom (read_file vars root held sources name p used behind) now e
+  file_refused sources name floor p used now behind (bad.Missing file) h =
+      let is : file_read vars root held sources name p used behind (get held name) ≡ refused used (bad.Missing name) = ap (file_read vars root held sources name p used behind) h.1 in
+      (ap (λ r. r.answer) is ∙ ap (λ f. Err (bad.Missing f)) (sym h.0), ap (λ r. r.used) is ∙ sym h.2)
+  file_refused sources name floor p used now behind (bad.ReadFault file) h =
+      (0, omega arith, λ i. (sym h.0 i, sym h.1 i))
+  file_refused sources name floor p used now behind (bad.TooLarge limit.FileBytes count) h =
+      let is = file_long sources name p used behind (get held name) h.1.0 h.1.1 h.1.2 in
+      (ap (λ r. r.answer) is ∙ ap (λ n. Err (bad.TooLarge limit.FileBytes n)) (sym h.0), ap (λ r. r.used) is ∙ sym h.2)
+  file_refused sources name floor p used now behind (bad.TooLarge limit.AllBytes count) h =
+      let is = file_last sources name p used behind (get held name) h.0 h.1 h.4 (subst (λ n. 536870912 < n) h.2 h.3) in
+      (ap (λ r. r.answer) is ∙ ap (λ n. Err (bad.TooLarge limit.AllBytes n)) (sym h.2), ap (λ r. r.used) is ∙ sym h.5)
+  file_refused sources name floor p used now behind bad.Oom h = (0, omega arith, sym h)
+  file_refused sources name floor p used now behind e h = absurd h
+
+  -- a file that is opened: its lines are read
+  file_opened : (sources : Sources) (name : List ℕ) (p : Progress) (used now : ℕ) (behind : Behind) (t : TextLeft)
+      → Opens name (length p.openers) (get held name) used now (Ok t)
+      → read_file vars root held sources name p used behind ≡ asking name used (left_read vars root sources t p now behind)
+  file_opened sources name p used now behind t h =
+      let taken = h.3 in
+      ap (asking name used) (file_taken sources name p used behind (get held name) h.0 h.1 taken.file (omega (arith, taken.taken, taken.all))
+      ∙ (λ i. left_read vars root sources (sym h.2 i) p (sym taken.taken i) behind))
+
+  step_down : (n : ℕ) → n < 64 → 64 - n ≡ suc (64 - suc n)
+  step_down n h = omega arith
+
+  -- a `source` line whose file is opened: the reading goes on in it
+  pub turn_entered : (texts mid new : TextsLeft) (p q : Progress) (used now line : ℕ) (file : List ℕ) (t : TextLeft)
+      → mid.sourcing ≡ texts.sourcing → length mid.sourcing < 64
+      → LeadsTo vars root texts.text p (λ sources used behind. sources texts.text.text line file q used (λ r now. left_read vars root sources mid.text r now behind))
+      → Opens file (length q.openers) (get held file) used now (Ok t)
+      → goes_on vars root held texts p used ≡ asking file used (goes_on vars root held (entered t mid) q now)
+  turn_entered texts mid new p q used now line file t same deep leads opens =
+      to_file texts mid p q used line file same leads
+      ∙ ap (λ d. sourced vars root held d texts.text.text line file q used (resumed vars root held (mid.text ∷ mid.sourcing))) (step_down (length mid.sourcing) deep)
+      ∙ file_opened (sourced vars root held (64 - suc (length mid.sourcing))) file q used now (resumed vars root held (mid.text ∷ mid.sourcing)) t opens
+
+  -- a `source` line whose file is refused
+  pub turn_not_entered : (texts mid : TextsLeft) (p q : Progress) (used now line : ℕ) (file : List ℕ) (e : KconfBad)
+      → mid.sourcing ≡ texts.sourcing → length mid.sourcing < 64
+      → LeadsTo vars root texts.text p (λ sources used behind. sources texts.text.text line file q used (λ r now. left_read vars root sources mid.text r now behind))
+      → Opens file (length q.openers) (get held file) used now (Err e)
+      → FailsFrom (goes_on vars root held texts p used) now e
+  turn_not_entered texts mid p q used now line file e same deep leads opens =
+      subst (λ r. FailsFrom r now e)
+      (sym (to_file texts mid p q used line file same leads
+      ∙ ap (λ d. sourced vars root held d texts.text.text line file q used (resumed vars root held (mid.text ∷ mid.sourcing))) (step_down (length mid.sourcing) deep)))
+      (file_refused (sourced vars root held (64 - suc (length mid.sourcing))) file (length q.openers) q used now (resumed vars root held (mid.text ∷ mid.sourcing)) e opens)
+
+  -- the root text: the reading begins in it
+  pub root_entered : (used now : ℕ) (t : TextLeft) → Opens root 0 (get held root) used now (Ok t)
+      → reading vars root held used ≡ asking root used (goes_on vars root held (root_alone t) at_start now)
+  root_entered used now t opens = file_opened (sourced vars root held 64) root at_start used now all_read t opens
+
+  pub root_not_entered : (used now : ℕ) (e : KconfBad) → Opens root 0 (get held root) used now (Err e)
+      → FailsFrom (reading vars root held used) now e
+  root_not_entered used now e opens = file_refused (sourced vars root held 64) root 0 at_start used now all_read e opens

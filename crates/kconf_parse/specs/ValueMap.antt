@@ -1,0 +1,12 @@
+-- The map in which values are looked up: what it promises of the list that it is made from.
+use Rattle.std.specs.Prelude.{◌≡◌, ℕ, nat_eq, List}
+use Rattle.std.specs.Option.{option_map}
+use Rattle.std.specs.Cmp.Lexicographic.{pointwise}
+use Rattle.std.specs.Map.{lookup}
+use Rattle.std.proofs.Common.{Bor}
+use Rattle.kconf_parse.specs.declared.entries.Var.{Var}
+use Rattle.kconf_parse.specs.MacroCalls.{value_of}
+
+-- a look-up finds the value that is handed in for the name
+abbrev pub HoldsValues : List (Bor (List ℕ) × Bor (List ℕ)) → List Var → Type 0
+HoldsValues entries vars = (name : Bor (List ℕ)) → option_map (λ (t : Bor (List ℕ)). t.now) (lookup (λ (k : Bor (List ℕ)). pointwise nat_eq name.now k.now) entries) ≡ value_of vars name.now
