@@ -1,9 +1,11 @@
 -- Laws of reading the open texts: how many bytes are taken where it breaks off, and what a turn leads to.
-use Rattle.std.proofs.Common.{◌≡◌, ◌<◌, ◌≤◌, ◌+◌, ◌-◌, ◌*◌, ◌^◌, ◌++◌, ℕ, suc, zero, Bool, true, false, Option, None, Some, List, [], ◌∷◌, length, map, Contains, Result, Ok, Err, if◌then◌else◌, nat_lt, refl, ap, sym, subst, ◌∙◌, inl, inr, arith}
+use Rattle.std.proofs.Common.{◌≡◌, ◌<◌, ◌≤◌, ◌+◌, ◌-◌, ◌*◌, ◌^◌, ◌++◌, ℕ, suc, zero, Bool, true, false, Option, None, Some, List, [], ◌∷◌, length, map, Contains, Result, Ok, Err, if◌then◌else◌, nat_lt, refl, ap, sym, subst, ◌∙◌, ◌⊎◌, inl, inr, append_assoc, arith}
 use Rattle.std.proofs.lemmas.List.Elements.{Contains-append_left, Contains-append_right}
+use Rattle.std.specs.Option.{IfSome}
 use Rattle.std.specs.FinMap.{get}
 use Rattle.ut_base.specs.Outside.{Held, IsLonger}
 use Rattle.ut_base.specs.declared.limits.Limit.TheVariants as limit
+use Rattle.kconf_parse.specs.declared.bad.SyntaxKind.TheVariants as fault
 use Rattle.kconf_parse.specs.declared.bad.KconfBad.{KconfBad}
 use Rattle.kconf_parse.specs.declared.bad.KconfBad.TheVariants as bad
 use Rattle.kconf_parse.specs.declared.entries.Var.{Var}
@@ -35,25 +37,23 @@ lines_hold vars root sources t s behind b n k [] p used = by (line_of_opener p.o
   where
     by : (o : Option ℕ) → Holds (closed_by t p used behind o) used
     by None = b (ending p) used
-    by (Some line) = refused_holds used _
+    by (Some line) = refused_holds used (bad.Syntax t.name line fault.Unclosed)
 lines_hold vars root sources t s behind b n (suc k) (l ∷ ls) p used = lines_hold vars root sources t s behind b (suc n) k ls p used
 lines_hold vars root sources t s behind b n zero (l ∷ ls) p used =
     by (stepped vars root t.floor n p (joined_text (l ∷ ls))) (λ k q used. lines_hold vars root sources t s behind b (suc n) k ls q used)
   where
-    then_lines : Follows → Behind
-    then_lines f p used = read_lines vars root sources t (suc n) (lines_taken f (joined_count (l ∷ ls) - 1) ls) ls p used behind
-
     by : (r : Result (Follows × Progress) LineBad)
         → ((k : ℕ) (q : Progress) (used : ℕ) → Holds (read_lines vars root sources t (suc n) k ls q used behind) used)
         → Holds (line_read sources t n used (λ f p used. read_lines vars root sources t (suc n) (lines_taken f (joined_count (l ∷ ls) - 1) ls) ls p used behind) r) used
-    by (Err e) h = refused_holds used _
-    by (Ok (next.Text file, q)) h = s t n file q used _
-    by (Ok (next.Line, q)) h = h _ q used
-    by (Ok (next.Help, q)) h = h _ q used
+    by (Err e) h = refused_holds used (at_line t.name n e)
+    by (Ok (next.Text file, q)) h =
+        s t n file q used (λ p used. read_lines vars root sources t (suc n) (lines_taken (next.Text file) (joined_count (l ∷ ls) - 1) ls) ls p used behind)
+    by (Ok (next.Line, q)) h = h (lines_taken next.Line (joined_count (l ∷ ls) - 1) ls) q used
+    by (Ok (next.Help, q)) h = h (lines_taken next.Help (joined_count (l ∷ ls) - 1) ls) q used
 
 module _ (vars : List Var) (root : List ℕ) (held : Held) where
   sourced_holds : (depth : ℕ) (t : TextOf) (n : ℕ) (file : List ℕ) (p : Progress) (used : ℕ) (behind : Behind) → Holds (sourced vars root held depth t n file p used behind) used
-  sourced_holds zero t n file p used behind = refused_holds used _
+  sourced_holds zero t n file p used behind = refused_holds used (bad.Depth t.name n limit.SourceDepth)
   sourced_holds (suc depth) t n file p used behind = (0, omega arith, refl)
 
   resumed_holds : (ts : List TextLeft) (p : Progress) (used : ℕ) → Holds (resumed vars root held ts p used) used
@@ -65,7 +65,7 @@ module _ (vars : List Var) (root : List ℕ) (held : Held) where
   goes_on_holds texts p used = resumed_holds (texts.text ∷ texts.sourcing) p used
 
   -- reading that leads to other reading behind files that were asked for breaks off where that does
-  fails_ahead : (front : List (List ℕ × ℕ)) (r : Reading) (now : ℕ) (e : KconfBad) → FailsFrom r now e → FailsFrom (ahead front r) now e
+  pub fails_ahead : (front : List (List ℕ × ℕ)) (r : Reading) (now : ℕ) (e : KconfBad) → FailsFrom r now e → FailsFrom (ahead front r) now e
   fails_ahead front r now (bad.ReadFault file) h = Contains-append_right front r.asked (file, now) h
   fails_ahead front r now bad.Oom h = subst (λ xs. Contains xs now) (amounts_ahead front r.asked) (Contains-append_right (map (λ a. a.1) front) (amounts r) now h)
     where
@@ -116,7 +116,7 @@ module _ (vars : List Var) (root : List ℕ) (held : Held) where
   )
 
   -- at a `source` line: the reading of the file, and behind it what is left of the open texts
-  to_file : (texts mid : TextsLeft) (p q : Progress) (used line : ℕ) (file : List ℕ) (stop : mid.sourcing ≡ texts.sourcing)
+  to_file : (texts mid : TextsLeft) (p q : Progress) (used line : ℕ) (file : List ℕ) → mid.sourcing ≡ texts.sourcing
       → LeadsTo vars root texts.text p (λ sources used behind. sources texts.text.text line file q used (λ r now. left_read vars root sources mid.text r now behind))
       → goes_on vars root held texts p used
       ≡ sourced vars root held (64 - length mid.sourcing) texts.text.text line file q used (resumed vars root held (mid.text ∷ mid.sourcing))
@@ -198,12 +198,12 @@ module _ (vars : List Var) (root : List ℕ) (held : Held) where
   step_down n h = omega arith
 
   -- a `source` line whose file is opened: the reading goes on in it
-  pub turn_entered : (texts mid new : TextsLeft) (p q : Progress) (used now line : ℕ) (file : List ℕ) (t : TextLeft)
+  pub turn_entered : (texts mid : TextsLeft) (p q : Progress) (used now line : ℕ) (file : List ℕ) (t : TextLeft)
       → mid.sourcing ≡ texts.sourcing → length mid.sourcing < 64
       → LeadsTo vars root texts.text p (λ sources used behind. sources texts.text.text line file q used (λ r now. left_read vars root sources mid.text r now behind))
       → Opens file (length q.openers) (get held file) used now (Ok t)
       → goes_on vars root held texts p used ≡ asking file used (goes_on vars root held (entered t mid) q now)
-  turn_entered texts mid new p q used now line file t same deep leads opens =
+  turn_entered texts mid p q used now line file t same deep leads opens =
       to_file texts mid p q used line file same leads
       ∙ ap (λ d. sourced vars root held d texts.text.text line file q used (resumed vars root held (mid.text ∷ mid.sourcing))) (step_down (length mid.sourcing) deep)
       ∙ file_opened (sourced vars root held (64 - suc (length mid.sourcing))) file q used now (resumed vars root held (mid.text ∷ mid.sourcing)) t opens
@@ -228,3 +228,42 @@ module _ (vars : List Var) (root : List ℕ) (held : Held) where
   pub root_not_entered : (used now : ℕ) (e : KconfBad) → Opens root 0 (get held root) used now (Err e)
       → FailsFrom (reading vars root held used) now e
   root_not_entered used now e opens = file_refused (sourced vars root held 64) root 0 at_start used now all_read e opens
+
+-- and so where the files tell what they hold
+module _ (vars : List Var) (root : List ℕ) where
+  pub told_refused : (o : Option Held) (texts new : TextsLeft) (p q : Progress) (used : ℕ) (e : KconfBad) → IsOfLine e
+      → ReadsOn vars root texts.text p (Err e) new.text q → IfSome o (λ m. FailsFrom (goes_on vars root m texts p used) used e)
+  told_refused None texts new p q used e own h = tt
+  told_refused (Some m) texts new p q used e own h = turn_refused vars root m texts new p q used e own h
+
+  pub told_not_entered : (o : Option Held) (texts mid : TextsLeft) (p q : Progress) (used now line floor : ℕ) (file : List ℕ) (e : KconfBad)
+      → mid.sourcing ≡ texts.sourcing → length mid.sourcing < 64 → floor ≡ length q.openers
+      → LeadsTo vars root texts.text p (λ sources used behind. sources texts.text.text line file q used (λ r now. left_read vars root sources mid.text r now behind))
+      → IfSome o (λ m. Opens file floor (get m file) used now (Err e))
+      → IfSome o (λ m. FailsFrom (goes_on vars root m texts p used) now e)
+  told_not_entered None texts mid p q used now line floor file e same deep at leads opens = tt
+  told_not_entered (Some m) texts mid p q used now line floor file e same deep at leads opens =
+      turn_not_entered vars root m texts mid p q used now line file e same deep leads (subst (λ n. Opens file n (get m file) used now (Err e)) at opens)
+
+  pub told_entered : (o : Option Held) (texts mid : TextsLeft) (p q : Progress) (used now line floor : ℕ) (file : List ℕ) (t : TextLeft)
+      → mid.sourcing ≡ texts.sourcing → length mid.sourcing < 64 → floor ≡ length q.openers
+      → LeadsTo vars root texts.text p (λ sources used behind. sources texts.text.text line file q used (λ r now. left_read vars root sources mid.text r now behind))
+      → IfSome o (λ m. Opens file floor (get m file) used now (Ok t))
+      → IfSome o (λ m. (front : List (List ℕ × ℕ)) × (goes_on vars root m texts p used ≡ ahead front (goes_on vars root m (entered t mid) q now)))
+  told_entered None texts mid p q used now line floor file t same deep at leads opens = tt
+  told_entered (Some m) texts mid p q used now line floor file t same deep at leads opens = (
+    (file, used) ∷ [],
+    turn_entered vars root m texts mid p q used now line file t same deep leads (subst (λ n. Opens file n (get m file) used now (Ok t)) at opens),
+  )
+
+  -- no memory behind a file that is opened
+  pub told_no_room : (o : Option Held) (texts mid : TextsLeft) (p q : Progress) (used now line floor : ℕ) (file : List ℕ) (t : TextLeft)
+      → mid.sourcing ≡ texts.sourcing → length mid.sourcing < 64 → floor ≡ length q.openers
+      → LeadsTo vars root texts.text p (λ sources used behind. sources texts.text.text line file q used (λ r now. left_read vars root sources mid.text r now behind))
+      → IfSome o (λ m. Opens file floor (get m file) used now (Ok t))
+      → IfSome o (λ m. FailsFrom (goes_on vars root m texts p used) now bad.Oom)
+  told_no_room None texts mid p q used now line floor file t same deep at leads opens = tt
+  told_no_room (Some m) texts mid p q used now line floor file t same deep at leads opens =
+      let leads_on = turn_entered vars root m texts mid p q used now line file t same deep leads (subst (λ n. Opens file n (get m file) used now (Ok t)) at opens) in
+      subst (λ r. FailsFrom r now bad.Oom) (sym leads_on)
+      (fails_ahead vars root m ((file, used) ∷ []) (goes_on vars root m (entered t mid) q now) now bad.Oom (goes_on_holds vars root m (entered t mid) q now))

@@ -72,7 +72,8 @@ fn turn<F: Files>(
     texts: &mut OpenTexts,
     progress: &mut Progress,
 ) -> Result<Option<()>, KconfBad>
-    requires { length texts.old.sourcing ≤ 64 }
+    requires depth { length texts.old.sourcing ≤ 64 }
+    requires used { meter.old ≤ 536870912 }
     ensures told { IfSome (F.held files.old) (λ m. inner.Turns values.now root.now m texts.old progress.old meter.old result texts.new progress.new meter.new) }
     ensures same { F.held files.new ≡ F.held files.old }
     ensures within { TreeWithin meter.old meter.new result }
