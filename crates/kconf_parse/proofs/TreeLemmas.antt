@@ -3,11 +3,12 @@ use Rattle.std.proofs.Common.{◌≡◌, ◌<◌, ◌≤◌, ◌+◌, ◌-◌, �
 use Rattle.std.proofs.lemmas.List.Elements.{Contains-append_left, Contains-append_right}
 use Rattle.std.specs.Option.{IfSome}
 use Rattle.std.specs.FinMap.{get}
-use Rattle.ut_base.specs.Outside.{Held, IsLonger}
+use Rattle.ut_base.specs.Outside.{Held, HasCause}
 use Rattle.ut_base.specs.declared.limits.Limit.TheVariants as limit
 use Rattle.kconf_parse.specs.declared.bad.SyntaxKind.TheVariants as fault
 use Rattle.kconf_parse.specs.declared.bad.KconfBad.{KconfBad}
 use Rattle.kconf_parse.specs.declared.bad.KconfBad.TheVariants as bad
+use Rattle.kconf_parse.specs.declared.entries.Entries.{Entries}
 use Rattle.kconf_parse.specs.declared.entries.Var.{Var}
 use Rattle.kconf_parse.specs.declared.line_bad.LineBad.{LineBad}
 use Rattle.kconf_parse.specs.declared.follows.Follows.{Follows}
@@ -19,7 +20,7 @@ use Rattle.kconf_parse.specs.LogicalLines.{joined_count, joined_text}
 use Rattle.kconf_parse.specs.Texts.{TextOf, Sources, Behind, Reading, refused, all_read, asking, at_line, at_end, closed_by, lines_taken, line_read, behind_line, stepped, read_lines, file_read, read_file, sourced, reading}
 use Rattle.kconf_parse.specs.TextReading.{TextLeft, LeadsTo, IsOfLine, ReadsOn, left_read, resumed, rest_read}
 use Rattle.kconf_parse.specs.OpenTexts.{TextsLeft, Leaves, Opens, Taken, root_alone, entered, ahead, goes_on, Turns}
-use Rattle.kconf_parse.specs.TreeFile.{amounts, FailsFrom}
+use Rattle.kconf_parse.specs.TreeFile.{amounts, FailsFrom, TreeFrom, TreeWithin, IsWithin}
 
 -- the bytes taken so far are those at which the reading may break off
 abbrev pub Holds : Reading → ℕ → Type 0
@@ -51,6 +52,21 @@ lines_hold vars root sources t s behind b n zero (l ∷ ls) p used =
     by (Ok (next.Line, q)) h = h (lines_taken next.Line (joined_count (l ∷ ls) - 1) ls) q used
     by (Ok (next.Help, q)) h = h (lines_taken next.Help (joined_count (l ∷ ls) - 1) ls) q used
 
+-- reading that leads to other reading behind files that were asked for breaks off where that does
+fails_ahead : (front : List (List ℕ × ℕ)) (r : Reading) (now : ℕ) (e : KconfBad) → FailsFrom r now e → FailsFrom (ahead front r) now e
+fails_ahead front r now (bad.ReadFault file) h = Contains-append_right front r.asked (file, now) h
+fails_ahead front r now bad.Oom h = subst (λ xs. Contains xs now) (amounts_ahead front r.asked) (Contains-append_right (map (λ a. a.1) front) (amounts r) now h)
+  where
+    amounts_ahead : (front asked : List (List ℕ × ℕ)) → map (λ a. a.1) front ++ (map (λ a. a.1) asked ++ r.used ∷ []) ≡ map (λ a. a.1) (front ++ asked) ++ r.used ∷ []
+    amounts_ahead [] asked = refl
+    amounts_ahead (f ∷ front) asked = ap (λ xs. f.1 ∷ xs) (amounts_ahead front asked)
+fails_ahead front r now (bad.Syntax file line k) h = h
+fails_ahead front r now (bad.NotYet file line) h = h
+fails_ahead front r now (bad.Missing file) h = h
+fails_ahead front r now (bad.Macro file line) h = h
+fails_ahead front r now (bad.Depth file line what) h = h
+fails_ahead front r now (bad.TooLarge what count) h = h
+
 module _ (vars : List Var) (root : List ℕ) (held : Held) where
   sourced_holds : (depth : ℕ) (t : TextOf) (n : ℕ) (file : List ℕ) (p : Progress) (used : ℕ) (behind : Behind) → Holds (sourced vars root held depth t n file p used behind) used
   sourced_holds zero t n file p used behind = refused_holds used (bad.Depth t.name n limit.SourceDepth)
@@ -63,32 +79,6 @@ module _ (vars : List Var) (root : List ℕ) (held : Held) where
   -- the bytes taken so far are among those at which reading may break off
   pub goes_on_holds : (texts : TextsLeft) (p : Progress) (used : ℕ) → Holds (goes_on vars root held texts p used) used
   goes_on_holds texts p used = resumed_holds (texts.text ∷ texts.sourcing) p used
-
-  -- reading that leads to other reading behind files that were asked for breaks off where that does
-  pub fails_ahead : (front : List (List ℕ × ℕ)) (r : Reading) (now : ℕ) (e : KconfBad) → FailsFrom r now e → FailsFrom (ahead front r) now e
-  fails_ahead front r now (bad.ReadFault file) h = Contains-append_right front r.asked (file, now) h
-  fails_ahead front r now bad.Oom h = subst (λ xs. Contains xs now) (amounts_ahead front r.asked) (Contains-append_right (map (λ a. a.1) front) (amounts r) now h)
-    where
-      amounts_ahead : (front asked : List (List ℕ × ℕ)) → map (λ a. a.1) front ++ (map (λ a. a.1) asked ++ r.used ∷ []) ≡ map (λ a. a.1) (front ++ asked) ++ r.used ∷ []
-      amounts_ahead [] asked = refl
-      amounts_ahead (f ∷ front) asked = ap (λ xs. f.1 ∷ xs) (amounts_ahead front asked)
-  fails_ahead front r now (bad.Syntax file line k) h = h
-  fails_ahead front r now (bad.NotYet file line) h = h
-  fails_ahead front r now (bad.Missing file) h = h
-  fails_ahead front r now (bad.Macro file line) h = h
-  fails_ahead front r now (bad.Depth file line what) h = h
-  fails_ahead front r now (bad.TooLarge what count) h = h
-
-  -- a line's refusal ends the reading
-  fails_of_line : (used : ℕ) (e : KconfBad) → IsOfLine e → FailsFrom (refused used e) used e
-  fails_of_line used (bad.ReadFault file) h = absurd h
-  fails_of_line used (bad.Missing file) h = absurd h
-  fails_of_line used (bad.TooLarge what count) h = absurd h
-  fails_of_line used bad.Oom h = (0, omega arith, refl)
-  fails_of_line used (bad.Syntax file line k) h = (refl, refl)
-  fails_of_line used (bad.NotYet file line) h = (refl, refl)
-  fails_of_line used (bad.Macro file line) h = (refl, refl)
-  fails_of_line used (bad.Depth file line what) h = (refl, refl)
 
   -- a refusal in the text that is read
   pub turn_refused : (texts new : TextsLeft) (p q : Progress) (used : ℕ) (e : KconfBad) → IsOfLine e
@@ -266,4 +256,106 @@ module _ (vars : List Var) (root : List ℕ) where
   told_no_room (Some m) texts mid p q used now line floor file t same deep at leads opens =
       let leads_on = turn_entered vars root m texts mid p q used now line file t same deep leads (subst (λ n. Opens file n (get m file) used now (Ok t)) at opens) in
       subst (λ r. FailsFrom r now bad.Oom) (sym leads_on)
-      (fails_ahead vars root m ((file, used) ∷ []) (goes_on vars root m (entered t mid) q now) now bad.Oom (goes_on_holds vars root m (entered t mid) q now))
+      (fails_ahead ((file, used) ∷ []) (goes_on vars root m (entered t mid) q now) now bad.Oom (goes_on_holds vars root m (entered t mid) q now))
+
+  -- a whole reading goes on to this
+  abbrev pub IsAhead : Reading → Reading → Type 0
+  IsAhead whole rest = (front : List (List ℕ × ℕ)) × (whole ≡ ahead front rest)
+
+  from_ahead : (whole rest : Reading) (now : ℕ) (r : Result Entries KconfBad) → IsAhead whole rest → TreeFrom rest now r → TreeFrom whole now r
+  from_ahead whole rest now (Ok entries) h is = (ap (λ r. r.answer) h.1 ∙ is.0, ap (λ r. r.used) h.1 ∙ is.1)
+  from_ahead whole rest now (Err e) h is = subst (λ r. FailsFrom r now e) (sym h.1) (fails_ahead h.0 rest now e is)
+
+  -- a turn leads on
+  on_ahead : (whole rest more : Reading) (front : List (List ℕ × ℕ)) → IsAhead whole rest → rest ≡ ahead front more → IsAhead whole more
+  on_ahead whole rest more front h e = (
+    h.0 ++ front,
+    h.1 ∙ ap (ahead h.0) e ∙ (λ i. record { asked = sym (append_assoc h.0 front more.asked) i; used = more.used; answer = more.answer }),
+  )
+
+  -- where turns came to
+  abbrev pub CameTo : Option Held → (Held → Reading) → TextsLeft → Progress → ℕ → Type 0
+  CameTo o whole texts p used = IfSome o (λ m. IsAhead (whole m) (goes_on vars root m texts p used))
+
+  pub told_start : (o : Option Held) (texts : TextsLeft) (p : Progress) (used : ℕ) → CameTo o (λ m. goes_on vars root m texts p used) texts p used
+  told_start None texts p used = tt
+  told_start (Some m) texts p used = ([], refl)
+
+  module _ (whole : Held → Reading) where
+    told_next : {A : Type 0} (x : A) (o : Option Held) (texts new : TextsLeft) (p q : Progress) (used now : ℕ) → CameTo o whole texts p used
+        → IfSome o (λ m. Turns vars root m texts p used (Ok (Some x)) new q now) → CameTo o whole new q now
+    told_next x None texts new p q used now h turns = tt
+    told_next x (Some m) texts new p q used now h turns = on_ahead (whole m) (goes_on vars root m texts p used) (goes_on vars root m new q now) turns.0 h turns.1
+
+    -- a turn
+    pub told_on : {A : Type 0} (x : A) (o n : Option Held) → n ≡ o → (texts new : TextsLeft) (p q : Progress) (used now : ℕ) → CameTo o whole texts p used
+        → IfSome n (λ m. Turns vars root m texts p used (Ok (Some x)) new q now) → CameTo o whole new q now
+    told_on x o n e texts new p q used now h turns =
+        told_next x o texts new p q used now h (subst (λ o. IfSome o (λ m. Turns vars root m texts p used (Ok (Some x)) new q now)) e turns)
+
+    -- the last turn
+    pub told_end : (o n : Option Held) → n ≡ o → (texts : TextsLeft) (p q : Progress) (used now : ℕ) (entries : Entries)
+        → entries.configs ≡ q.configs → entries.choices ≡ q.choices → CameTo o whole texts p used
+        → IfSome n (λ m. goes_on vars root m texts p used ≡ all_read q now) → IfSome o (λ m. TreeFrom (whole m) now (Ok entries))
+    told_end o n e texts p q used now entries configs choices h turns = by o h (subst (λ o. IfSome o (λ m. goes_on vars root m texts p used ≡ all_read q now)) e turns)
+      where
+        by : (o : Option Held) → CameTo o whole texts p used → IfSome o (λ m. goes_on vars root m texts p used ≡ all_read q now)
+            → IfSome o (λ m. TreeFrom (whole m) now (Ok entries))
+        by None h turns = tt
+        by (Some m) h turns = from_ahead (whole m) (goes_on vars root m texts p used) now (Ok entries) h
+            (ap (λ r. r.answer) turns ∙ (λ i. Ok (record { configs = sym configs i; choices = sym choices i })), ap (λ r. r.used) turns)
+
+    -- a turn that is refused
+    pub told_fails : (o n : Option Held) → n ≡ o → (texts : TextsLeft) (p : Progress) (used now : ℕ) (e : KconfBad) → CameTo o whole texts p used
+        → IfSome n (λ m. FailsFrom (goes_on vars root m texts p used) now e) → IfSome o (λ m. FailsFrom (whole m) now e)
+    told_fails o n same texts p used now e h turns = by o h (subst (λ o. IfSome o (λ m. FailsFrom (goes_on vars root m texts p used) now e)) same turns)
+      where
+        by : (o : Option Held) → CameTo o whole texts p used → IfSome o (λ m. FailsFrom (goes_on vars root m texts p used) now e)
+            → IfSome o (λ m. FailsFrom (whole m) now e)
+        by None h turns = tt
+        by (Some m) h turns = from_ahead (whole m) (goes_on vars root m texts p used) now (Err e) h turns
+
+  -- the root text is opened, or refused
+  told_whole : (o : Option Held) (used mid now : ℕ) (t : TextLeft) (r : Result Entries KconfBad) → IfSome o (λ m. Opens root 0 (get m root) used mid (Ok t))
+      → IfSome o (λ m. TreeFrom (goes_on vars root m (root_alone t) at_start mid) now r) → IfSome o (λ m. TreeFrom (reading vars root m used) now r)
+  told_whole None used mid now t r opens is = tt
+  told_whole (Some m) used mid now t r opens is =
+      from_ahead (reading vars root m used) (goes_on vars root m (root_alone t) at_start mid) now r ((root, used) ∷ [], root_entered vars root m used mid t opens) is
+
+  no_root : (o : Option Held) (used now : ℕ) (e : KconfBad) → IfSome o (λ m. Opens root 0 (get m root) used now (Err e))
+      → IfSome o (λ m. FailsFrom (reading vars root m used) now e)
+  no_root None used now e opens = tt
+  no_root (Some m) used now e opens = root_not_entered vars root m used now e opens
+
+  pub told_no_root : (o : Option Held) (name : List ℕ) → name ≡ root → (used now : ℕ) (e : KconfBad) → IfSome o (λ m. Opens name 0 (get m name) used now (Err e))
+      → IfSome o (λ m. FailsFrom (reading vars root m used) now e)
+  told_no_root o name is used now e opens = no_root o used now e (subst (λ name. IfSome o (λ m. Opens name 0 (get m name) used now (Err e))) is opens)
+
+  -- no memory before the root text is asked for
+  pub told_nothing : (o : Option Held) (used : ℕ) → IfSome o (λ m. FailsFrom (reading vars root m used) used bad.Oom)
+  told_nothing None used = tt
+  told_nothing (Some m) used = (0, omega arith, refl)
+
+  -- behind the root text, by an equal name and equal values
+  pub told_root : (o n : Option Held) → n ≡ o → (values : List Var) → values ≡ vars → (name : List ℕ) → name ≡ root → (used mid now : ℕ) (t : TextLeft) (r : Result Entries KconfBad)
+      → IfSome o (λ m. Opens name 0 (get m name) used mid (Ok t))
+      → IfSome n (λ m. TreeFrom (goes_on values root m (root_alone t) at_start mid) now r) → IfSome o (λ m. TreeFrom (reading vars root m used) now r)
+  told_root o n same values e name is used mid now t r opens reads =
+      told_whole o used mid now t r (subst (λ name. IfSome o (λ m. Opens name 0 (get m name) used mid (Ok t))) is opens)
+      (subst (λ o. IfSome o (λ m. TreeFrom (goes_on vars root m (root_alone t) at_start mid) now r)) same
+      (subst (λ vs. IfSome n (λ m. TreeFrom (goes_on vs root m (root_alone t) at_start mid) now r)) e reads))
+
+-- a cause that comes later has come since an earlier time too
+pub since : (a b c : ℕ) (came : Type 0) → a ≤ b → HasCause b c came → HasCause a c came
+since a b c came before h = record { later = omega (arith, h.later); rose = λ x. omega (arith, h.rose x) }
+
+-- so have bytes within the limits
+pub within_since : (a b c : ℕ) (e : KconfBad) → a ≤ b → IsWithin b c e → IsWithin a c e
+within_since a b c (bad.TooLarge limit.FileBytes count) before h = (omega (arith, h.0), h.1)
+within_since a b c (bad.TooLarge limit.AllBytes count) before h = (omega (arith, h.0), h.1, h.2)
+within_since a b c (bad.TooLarge what count) before h = absurd h
+within_since a b c e before h = omega (arith, h)
+
+pub tree_within_since : {A : Type 0} (a b c : ℕ) (r : Result A KconfBad) → a ≤ b → TreeWithin b c r → TreeWithin a c r
+tree_within_since a b c (Ok x) before h = (omega (arith, h.0), h.1)
+tree_within_since a b c (Err e) before h = within_since a b c e before h
