@@ -1,13 +1,16 @@
 -- Laws of the number that falls with each turn: the lines that are left of the open texts, those of the outer ones first.
-use Rattle.std.proofs.Common.{◌≡◌, ◌<◌, ◌≤◌, ◌+◌, ◌-◌, ◌*◌, ◌^◌, ℕ, suc, zero, Option, None, Some, List, [], ◌∷◌, length, refl, ap, sym, subst, ◌∙◌, add-zero, arith}
-use Rattle.std.proofs.Math.Nat.{mul_comm, mul_assoc, pow-suc}
+use Rattle.std.proofs.Common.{◌≡◌, ◌<◌, ◌≤◌, ◌+◌, ◌-◌, ◌*◌, ◌^◌, ◌==◌, ◌&&◌, ℕ, suc, zero, Bool, true, false, Option, None, Some, List, [], ◌∷◌, length, if◌then◌else◌, refl, ap, sym, subst, ◌∙◌, add-zero, arith}
+use Rattle.std.specs.Option.{IsSome}
+use Rattle.std.proofs.lemmas.Bool.{false≢true}
+use Rattle.std.proofs.Math.Nat.{mul_comm, mul_assoc, pow-suc, pow-zero}
 use Rattle.std.proofs.lemmas.Nat.{mul-add-lt, mul-lt}
 use Rattle.kconf_parse.specs.TextReading.{TextLeft}
+use Rattle.kconf_parse.specs.Lines.{begins_newline, onto_first, lines_of}
 use Rattle.kconf_parse.specs.OpenTexts.{TextsLeft, Leaves, entered, most, lines_weight, weight}
 
 -- a power is not 0
 some_power : (b k : ℕ) → 0 < b → 0 < b ^ k
-some_power b zero h = omega arith
+some_power b zero h = subst (λ x. 0 < x) (sym (pow-zero b)) (omega arith)
 some_power b (suc k) h = subst (λ x. 0 < x) (sym (pow-suc b k)) (mul-lt 0 0 (b ^ k) b (some_power b k h) h)
 
 -- a product with a greater number is greater
@@ -46,7 +49,7 @@ entered_lighter old mid inner same deep fewer short =
     (64 - length mid.sourcing) (64 - suc (length mid.sourcing)) fewer (omega arith) (omega arith) (step_down (length mid.sourcing) deep))
 
 -- behind the end of a sourced text
-pub left_lighter : (old mid new : TextsLeft) → mid.sourcing ≡ old.sourcing → mid.sourcing ≡ new.text ∷ new.sourcing → length old.sourcing ≤ 64
+left_lighter : (old mid new : TextsLeft) → mid.sourcing ≡ old.sourcing → mid.sourcing ≡ new.text ∷ new.sourcing → length old.sourcing ≤ 64
     → weight new < weight old
 left_lighter old mid new same is within =
     let here : old.sourcing ≡ new.text ∷ new.sourcing = sym same ∙ is in
@@ -54,3 +57,24 @@ left_lighter old mid new same is within =
     let P : List TextLeft → Type 0 = λ ts. weight new < (lines_weight ts * most + (length old.text.left.lines + 1)) * most ^ (64 - length ts) in
     subst P (sym here) (outer_lighter most (lines_weight (new.text ∷ new.sourcing)) (length old.text.left.lines + 1)
     (64 - length new.sourcing) (64 - suc (length new.sourcing)) (omega arith) (omega arith) (step_down (length new.sourcing) (omega (arith, low))))
+
+-- behind the end of a text, where the text that sources it goes on
+pub ended_lighter : {A : Type 0} (old mid new : TextsLeft) (left : Option A) → mid.sourcing ≡ old.sourcing → Leaves mid left new
+    → length old.sourcing ≤ 64 → IsSome left → weight new < weight old
+ended_lighter old mid new None same ends within some = absurd (false≢true some)
+ended_lighter old mid new (Some x) same ends within some = left_lighter old mid new same ends within
+
+onto_within : (b n : ℕ) (ls : List (List ℕ)) → length ls ≤ n → length (onto_first b ls) ≤ suc n
+onto_within b n [] h = omega arith
+onto_within b n (l ∷ ls) h = omega arith
+
+-- a text has no more lines than bytes
+pub lines_within : (s : List ℕ) → length (lines_of s) ≤ length s
+lines_within [] = omega arith
+lines_within (b ∷ s) = by (b == 10) (b == 13 && begins_newline s) (lines_within s)
+  where
+    by : (x y : Bool) → length (lines_of s) ≤ length s
+        → length (if x then [] ∷ lines_of s else if y then lines_of s else onto_first b (lines_of s)) ≤ suc (length s)
+    by true y h = omega arith
+    by false true h = omega arith
+    by false false h = onto_within b (length s) (lines_of s) h

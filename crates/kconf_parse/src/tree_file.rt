@@ -1,6 +1,7 @@
 ghost use Rattle.std.specs.Prelude.{◌≡◌, ◌<◌, ◌≤◌, IfSome, IfOk, IsSome, length};
 ghost use Rattle.std.specs.FinMap.{get};
 ghost use Rattle.ut_base.specs.Outside.{HasCause};
+ghost use Rattle.kconf_parse.specs.Entries.{at_start};
 ghost use Rattle.kconf_parse.specs.Texts.{reading};
 ghost use Rattle.kconf_parse.specs.OpenTexts as inner;
 ghost use Rattle.kconf_parse.specs.TreeFile.{TreeFrom, TreeWithin, IsMissing, IsReadFault, IsTooLong};
@@ -47,13 +48,33 @@ pub fn read_tree<F: Files>(
     let values = Values::new(alloc, vars)?;
     let name = root.copy(alloc)?;
     let text = open_text(alloc, files, name, 0, meter)?;
+    read_texts(alloc, files, root, &values, meter, text)
+}
+
+/// Reads the root text, of which no line is read, and the texts that it sources.
+fn read_texts<F: Files>(
+    alloc: Global,
+    files: &mut F,
+    root: &Name,
+    values: &Values<'_>,
+    meter: &mut Meter,
+    text: OpenText,
+) -> Result<Entries, KconfBad>
+    requires { meter.old ≤ 536870912 }
+    ensures told { IfSome (F.held files.old) (λ m. TreeFrom (inner.goes_on values.now root.now m (inner.root_alone text) at_start meter.old) meter.new result) }
+    ensures same { F.held files.new ≡ F.held files.old }
+    ensures within { TreeWithin meter.old meter.new result }
+    ensures read_fault { HasCause (F.faults files.old) (F.faults files.new) (IsReadFault result) }
+    ensures missing { HasCause (F.missing files.old) (F.missing files.new) (IsMissing result) }
+    ensures long { HasCause (F.long files.old) (F.long files.new) (IsTooLong result) }
+{
     let mut texts = OpenTexts::new(alloc, text);
     let mut progress = Progress::new(alloc);
     'texts: while let Some(()) = turn(
         alloc,
         files,
         root,
-        &values,
+        values,
         meter,
         &mut texts,
         &mut progress,
@@ -72,7 +93,8 @@ fn turn<F: Files>(
     texts: &mut OpenTexts,
     progress: &mut Progress,
 ) -> Result<Option<()>, KconfBad>
-    requires { length texts.old.sourcing ≤ 64 }
+    requires depth { length texts.old.sourcing ≤ 64 }
+    requires used { meter.old ≤ 536870912 }
     ensures told { IfSome (F.held files.old) (λ m. inner.Turns values.now root.now m texts.old progress.old meter.old result texts.new progress.new meter.new) }
     ensures same { F.held files.new ≡ F.held files.old }
     ensures within { TreeWithin meter.old meter.new result }
