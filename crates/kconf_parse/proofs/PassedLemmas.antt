@@ -1,10 +1,13 @@
 -- Laws of the lines that are passed: what a line, a help text and the end of a text lead to.
-use Rattle.std.proofs.Common.{◌≡◌, ◌<◌, ◌≤◌, ◌+◌, ◌-◌, ℕ, suc, zero, Bool, true, false, Option, None, Some, List, [], ◌∷◌, length, drop, Result, Ok, Err, ◌==◌, if◌then◌else◌, add-zero, refl, ap, sym, subst, ◌∙◌, length-drop, arith}
-use Rattle.std.proofs.lemmas.List.{drop-drop}
-use Rattle.std.proofs.lemmas.Grind.{common_steps}
+use Rattle.std.proofs.Common.{◌≡◌, ◌<◌, ◌≤◌, ◌+◌, ◌-◌, ℕ, suc, zero, Bool, true, false, Option, None, Some, List, [], ◌∷◌, length, drop, Result, Ok, Err, ◌==◌, if◌then◌else◌, add-zero, refl, ap, sym, subst, ◌∙◌, inl, inr, length-drop, arith}
 use Rattle.std.specs.List.{prefix_len}
 use Rattle.kconf_parse.specs.declared.entries.Var.{Var}
+use Rattle.kconf_parse.specs.declared.bad.KconfBad.{KconfBad}
+use Rattle.kconf_parse.specs.declared.bad.KconfBad.TheVariants as refusal
 use Rattle.kconf_parse.specs.declared.line_bad.LineBad.{LineBad}
+use Rattle.kconf_parse.specs.declared.line_bad.LineBad.TheVariants as bad
+use Rattle.kconf_parse.specs.declared.open_text.TextStop.{TextStop}
+use Rattle.kconf_parse.specs.declared.open_text.TextStop.TheVariants as stop
 use Rattle.kconf_parse.specs.declared.follows.Follows.{Follows}
 use Rattle.kconf_parse.specs.declared.follows.Follows.TheVariants as next
 use Rattle.kconf_parse.specs.declared.logical_lines.LogicalLine.{LogicalLine}
@@ -12,7 +15,9 @@ use Rattle.kconf_parse.specs.LogicalLines.{LinesLeft, IsFirstLine, is_continued,
 use Rattle.kconf_parse.specs.HelpTexts.{help_count, indented_count, indentation, belongs}
 use Rattle.kconf_parse.specs.Entries.{Progress}
 use Rattle.kconf_parse.specs.Texts.{TextOf, Sources, Behind, Reading, refused, at_line, at_end, stepped, read_lines}
-use Rattle.kconf_parse.specs.TextReading.{TextLeft, LeadsTo, Passed, IsPassed}
+use Rattle.kconf_parse.specs.LineParts.{Fails}
+use Rattle.kconf_parse.specs.TextReading.{TextLeft, left_of, left_read, LeadsTo, GoesOn, IsPassed, ReadsUp, Refuses}
+use Rattle.kconf_parse.proofs.LogicalLinesLemmas.{behind-behind}
 use Rattle.kconf_parse.proofs.TextLemmas.{line_leads, help_leads, text_leads, fault_leads}
 
 -- a logical line takes no more lines than there are
@@ -31,13 +36,6 @@ some_lines (l ∷ ls) h = by (is_continued l)
     by : (b : Bool) → 0 < (if b then suc (joined_count ls) else 1)
     by true = omega arith
     by false = omega arith
-
--- lines behind lines
-pub behind_more : (c k : ℕ) (left : LinesLeft) → behind_lines c (behind_lines k left) ≡ behind_lines (k + c) left
-behind_more c k left = λ i. record { number = numbers i; lines = drop-drop c k left.lines i }
-  where
-    numbers : left.number + k + c ≡ left.number + (k + c)
-    numbers = omega arith
 
 front_within : {X : Type 0} (p : X → Bool) (xs : List X) → prefix_len p xs ≤ length xs
 front_within p [] = omega arith
@@ -68,106 +66,95 @@ help_within ls =
 left_length : (k : ℕ) (left now : LinesLeft) → now ≡ behind_lines k left → length now.lines ≡ length left.lines - k
 left_length k left now e = ap (λ x. length x.lines) e ∙ length-drop k left.lines
 
+-- the lines of a line and of its help text are passed
+line_passed : (old new : LinesLeft) (line : LogicalLine) → IsFirstLine old line new → IsPassed old new
+line_passed old new line first = record {
+  count = joined_count old.lines;
+  some = some_lines old.lines first.some;
+  within = joined_within old.lines;
+  left = first.left;
+}
+
+help_passed : (old new : LinesLeft) → IsPassed old new → IsPassed old (behind_lines (help_count new.lines) new)
+help_passed old new h = record {
+  count = h.count + help_count new.lines;
+  some = omega (arith, h.some);
+  within = omega (arith, h.within, help_within new.lines, left_length h.count old new h.left);
+  left = ap (behind_lines (help_count new.lines)) h.left ∙ behind-behind (help_count new.lines) h.count old;
+}
+
 module _ (vars : List Var) (root : List ℕ) where
-  -- before the first line that is left
-  pub starts : (old : TextLeft) (p : Progress) → Passed vars root old p old.left p
-  starts old p = record {
-    count = 0;
-    within = omega arith;
-    left = λ i. record { number = sym (add-zero old.left.number) i; lines = old.left.lines };
-    leads = λ sources used behind. refl;
-  }
+  -- so many lines of a text are passed, none or some, and reading it leads to what is left of it
+  pub record Passed (old : TextLeft) (p : Progress) (now : LinesLeft) (q : Progress) : Type 0 where
+    pub count : ℕ
+    pub within : count ≤ length old.left.lines
+    pub left : now ≡ behind_lines count old.left
+    pub goes : GoesOn vars root old p now q
+
+  -- what the first line says, by its own number and bytes
+  said : (t : TextOf) (old : LinesLeft) (p : Progress) (new : LinesLeft) (line : LogicalLine) → IsFirstLine old line new
+      → stepped vars root t.floor line.number p (text_bytes line.text) ≡ stepped vars root t.floor old.number p (joined_text old.lines)
+  said t old p new line first = λ i. stepped vars root t.floor (first.number i) p (first.text i)
 
   -- behind a line behind which the next line stands
-  pub by_line : (old : TextLeft) (p : Progress) (now new : LinesLeft) (q r : Progress) (line : LogicalLine) (text : List ℕ)
-      → Passed vars root old p now q → IsFirstLine now line new → text ≡ text_bytes line.text
-      → stepped vars root old.text.floor line.number q text ≡ Ok (next.Line, r)
-      → Passed vars root old p new r
-  by_line old p now new q r line text h first same e = record {
-    count = h.count + joined_count now.lines;
-    within = omega (arith, h.within, joined_within now.lines, left_length h.count old.left now h.left);
-    left = first.left ∙ ap (λ x. behind_lines (joined_count now.lines) x) h.left ∙ behind_more (joined_count now.lines) h.count old.left;
-    leads = λ sources used behind.
-        h.leads sources used behind
-        ∙ line_leads vars root sources old.text now.number now.lines q r used behind first.some (sym (read first same) ∙ e)
-        ∙ ap (λ x. read_lines vars root sources old.text x.number 0 x.lines r used behind) (sym first.left);
-  }
-    where
-      read : IsFirstLine now line new → text ≡ text_bytes line.text
-          → stepped vars root old.text.floor line.number q text ≡ stepped vars root old.text.floor now.number q (joined_text now.lines)
-      read first same = λ i. stepped vars root old.text.floor (first.number i) q ((same ∙ first.text) i)
+  pub by_line : (t : TextOf) (old : LinesLeft) (p : Progress) (new : LinesLeft) (q : Progress) (line : LogicalLine) → IsFirstLine old line new
+      → stepped vars root t.floor line.number p (text_bytes line.text) ≡ Ok (next.Line, q)
+      → IsPassed old new × GoesOn vars root (left_of t old) p new q
+  by_line t old p new q line first e = (
+    line_passed old new line first,
+    λ sources used behind.
+        line_leads vars root sources t old.number old.lines p q used behind first.some (sym (said t old p new line first) ∙ e)
+        ∙ ap (λ x. left_read vars root sources (left_of t x) q used behind) (sym first.left),
+  )
 
   -- behind a line and its help text
-  pub by_help : (old : TextLeft) (p : Progress) (now new : LinesLeft) (q r : Progress) (line : LogicalLine) (text : List ℕ)
-      → Passed vars root old p now q → IsFirstLine now line new → text ≡ text_bytes line.text
-      → stepped vars root old.text.floor line.number q text ≡ Ok (next.Help, r)
-      → Passed vars root old p (behind_lines (help_count new.lines) new) r
-  by_help old p now new q r line text h first same e =
-      let lines : new.lines ≡ drop (joined_count now.lines) now.lines = ap (λ x. x.lines) first.left in
-      let count = help_count new.lines in
-      record {
-        count = h.count + joined_count now.lines + count;
-        within = omega (
-          arith,
-          h.within,
-          joined_within now.lines,
-          left_length h.count old.left now h.left,
-          help_within new.lines,
-          left_length (joined_count now.lines) now new first.left,
-        );
-        left = ap (behind_lines count) (first.left ∙ ap (λ x. behind_lines (joined_count now.lines) x) h.left ∙ behind_more (joined_count now.lines) h.count old.left)
-            ∙ behind_more count (h.count + joined_count now.lines) old.left;
-        leads = λ sources used behind.
-            h.leads sources used behind
-            ∙ help_leads vars root sources old.text now.number now.lines q r used behind first.some (sym (read first same) ∙ e)
-            ∙ ap (λ x. read_lines vars root sources old.text (x.number + help_count x.lines) 0 (drop (help_count x.lines) x.lines) r used behind) (sym first.left);
-      }
-    where
-      read : IsFirstLine now line new → text ≡ text_bytes line.text
-          → stepped vars root old.text.floor line.number q text ≡ stepped vars root old.text.floor now.number q (joined_text now.lines)
-      read first same = λ i. stepped vars root old.text.floor (first.number i) q ((same ∙ first.text) i)
-
-  -- at a `source` line: some lines are passed, and what is read next
-  pub by_source : (old : TextLeft) (p : Progress) (now new : LinesLeft) (q r : Progress) (line : LogicalLine) (text file : List ℕ)
-      → Passed vars root old p now q → IsFirstLine now line new → text ≡ text_bytes line.text
-      → stepped vars root old.text.floor line.number q text ≡ Ok (next.Text file, r)
-      → IsPassed old.left new
-      × LeadsTo vars root old p (λ sources used behind. sources old.text line.number file r used (λ s now. read_lines vars root sources old.text new.number 0 new.lines s now behind))
-  by_source old p now new q r line text file h first same e = (
-    record {
-      count = h.count + joined_count now.lines;
-      some = omega (arith, some_lines now.lines first.some);
-      within = omega (arith, h.within, joined_within now.lines, left_length h.count old.left now h.left);
-      left = first.left ∙ ap (λ x. behind_lines (joined_count now.lines) x) h.left ∙ behind_more (joined_count now.lines) h.count old.left;
-    },
+  pub by_help : (t : TextOf) (old : LinesLeft) (p : Progress) (new : LinesLeft) (q : Progress) (line : LogicalLine) → IsFirstLine old line new
+      → stepped vars root t.floor line.number p (text_bytes line.text) ≡ Ok (next.Help, q)
+      → IsPassed old (behind_lines (help_count new.lines) new) × GoesOn vars root (left_of t old) p (behind_lines (help_count new.lines) new) q
+  by_help t old p new q line first e = (
+    help_passed old new (line_passed old new line first),
     λ sources used behind.
-        h.leads sources used behind
-        ∙ text_leads vars root sources old.text now.number now.lines q r file used behind first.some (sym (read first same) ∙ e)
-        ∙ ap (λ x. sources old.text now.number file r used (λ s now. read_lines vars root sources old.text x.number 0 x.lines s now behind)) (sym first.left)
-        ∙ ap (λ n. sources old.text n file r used (λ s now. read_lines vars root sources old.text new.number 0 new.lines s now behind)) (sym first.number),
+        help_leads vars root sources t old.number old.lines p q used behind first.some (sym (said t old p new line first) ∙ e)
+        ∙ ap (λ x. left_read vars root sources (left_of t (behind_lines (help_count x.lines) x)) q used behind) (sym first.left),
   )
-    where
-      read : IsFirstLine now line new → text ≡ text_bytes line.text
-          → stepped vars root old.text.floor line.number q text ≡ stepped vars root old.text.floor now.number q (joined_text now.lines)
-      read first same = λ i. stepped vars root old.text.floor (first.number i) q ((same ∙ first.text) i)
+
+  -- at a `source` line
+  pub by_source : (t : TextOf) (old : LinesLeft) (p : Progress) (new : LinesLeft) (q : Progress) (line : LogicalLine) (file : List ℕ) → IsFirstLine old line new
+      → stepped vars root t.floor line.number p (text_bytes line.text) ≡ Ok (next.Text file, q)
+      → ReadsUp vars root (left_of t old) p (Ok (stop.Source file line.number)) new q
+  by_source t old p new q line file first e = (
+    line_passed old new line first,
+    λ sources used behind.
+        text_leads vars root sources t old.number old.lines p q file used behind first.some (sym (said t old p new line first) ∙ e)
+        ∙ ap (λ x. sources t old.number file q used (λ r now. left_read vars root sources (left_of t x) r now behind)) (sym first.left)
+        ∙ ap (λ n. sources t n file q used (λ r now. left_read vars root sources (left_of t new) r now behind)) (sym first.number),
+  )
 
   -- at a line with a fault
-  pub by_fault : (old : TextLeft) (p : Progress) (now new : LinesLeft) (q : Progress) (line : LogicalLine) (text : List ℕ) (bad : LineBad)
-      → Passed vars root old p now q → IsFirstLine now line new → text ≡ text_bytes line.text
-      → stepped vars root old.text.floor line.number q text ≡ Err bad
-      → LeadsTo vars root old p (λ sources used behind. refused used (at_line old.text.name line.number bad))
-  by_fault old p now new q line text bad h first same e = λ sources used behind.
-      h.leads sources used behind
-      ∙ fault_leads vars root sources old.text now.number now.lines q bad used behind first.some (sym (read first same) ∙ e)
-      ∙ ap (λ n. refused used (at_line old.text.name n bad)) (sym first.number)
-    where
-      read : IsFirstLine now line new → text ≡ text_bytes line.text
-          → stepped vars root old.text.floor line.number q text ≡ stepped vars root old.text.floor now.number q (joined_text now.lines)
-      read first same = λ i. stepped vars root old.text.floor (first.number i) q ((same ∙ first.text) i)
+  refuses : (t : TextOf) (old : LinesLeft) (p : Progress) (new : LinesLeft) (line : LogicalLine) (b : LineBad) → IsFirstLine old line new
+      → stepped vars root t.floor line.number p (text_bytes line.text) ≡ Err b
+      → LeadsTo vars root (left_of t old) p (λ sources used behind. refused used (at_line t.name line.number b))
+  refuses t old p new line b first e = λ sources used behind.
+      fault_leads vars root sources t old.number old.lines p b used behind first.some (sym (said t old p new line first) ∙ e)
+      ∙ ap (λ n. refused used (at_line t.name n b)) (sym first.number)
+
+  refuses_as : (t : TextOf) (old : LinesLeft) (p : Progress) (new : LinesLeft) (q : Progress) (line : LogicalLine) (b : LineBad) → IsFirstLine old line new
+      → Fails b (stepped vars root t.floor line.number p (text_bytes line.text))
+      → ReadsUp vars root (left_of t old) p (Err (at_line t.name line.number b)) new q
+  refuses_as t old p new q line bad.Oom first e = tt
+  refuses_as t old p new q line (bad.Syntax kind) first e = refuses t old p new line (bad.Syntax kind) first e
+  refuses_as t old p new q line bad.NotYet first e = refuses t old p new line bad.NotYet first e
+  refuses_as t old p new q line bad.Macro first e = refuses t old p new line bad.Macro first e
+  refuses_as t old p new q line (bad.Depth what) first e = refuses t old p new line (bad.Depth what) first e
+
+  pub by_fault : (t : TextOf) (old : LinesLeft) (p : Progress) (new : LinesLeft) (q : Progress) (line : LogicalLine) (b : LineBad) (e : KconfBad) → IsFirstLine old line new
+      → Fails b (stepped vars root t.floor line.number p (text_bytes line.text)) → Refuses t.name line.number b e
+      → ReadsUp vars root (left_of t old) p (Err e) new q
+  by_fault t old p new q line b e first f (inl same) = subst (λ x. ReadsUp vars root (left_of t old) p (Err x) new q) (sym same) tt
+  by_fault t old p new q line b e first f (inr same) =
+      subst (λ x. ReadsUp vars root (left_of t old) p (Err x) new q) (sym same) (refuses_as t old p new q line b first f)
 
   -- behind the last line
-  pub by_end : (old : TextLeft) (p : Progress) (now : LinesLeft) (q : Progress)
-      → Passed vars root old p now q → now.lines ≡ []
-      → LeadsTo vars root old p (λ sources used behind. at_end old.text q used behind)
-  by_end old p now q h none = λ sources used behind.
-      h.leads sources used behind ∙ ap (λ ls. read_lines vars root sources old.text now.number 0 ls q used behind) none
+  pub by_end : (t : TextOf) (old : LinesLeft) (p : Progress) → old.lines ≡ []
+      → LeadsTo vars root (left_of t old) p (λ sources used behind. at_end t p used behind)
+  by_end t old p none = λ sources used behind. ap (λ ls. read_lines vars root sources t old.number 0 ls p used behind) none

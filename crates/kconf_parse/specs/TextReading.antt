@@ -1,5 +1,5 @@
 -- What the readers of texts promise each other: reading goes on from what is left of the open texts.
-use Rattle.std.specs.Prelude.{◌≡◌, ◌<◌, ◌≤◌, ◌-◌, ◌⊎◌, ℕ, length, ◌++◌, reverse, Result, Ok, Err, List, [], ◌∷◌}
+use Rattle.std.specs.Prelude.{◌≡◌, ◌<◌, ◌≤◌, ◌-◌, ◌⊎◌, ℕ, length, ◌++◌, reverse, Option, None, Some, Result, Ok, Err, List, [], ◌∷◌}
 use Rattle.ut_base.specs.Outside.{Held}
 use Rattle.kconf_parse.specs.declared.bad.KconfBad.{KconfBad}
 use Rattle.kconf_parse.specs.declared.bad.KconfBad.TheVariants as refusal
@@ -18,6 +18,9 @@ use Rattle.kconf_parse.specs.Texts.{TextOf, Sources, Behind, Reading, refused, a
 pub record TextLeft : Type 0 where
   pub text : TextOf
   pub left : LinesLeft
+
+abbrev pub left_of : TextOf → LinesLeft → TextLeft
+left_of text left = record { text = text; left = left }
 
 -- a line leads here, or has the fault
 abbrev pub Follow : Result Follows LineBad → Progress → Result (Follows × Progress) LineBad → Type 0
@@ -57,20 +60,23 @@ module _ (vars : List Var) (root : List ℕ) where
   abbrev pub LeadsTo : TextLeft → Progress → (Sources → ℕ → Behind → Reading) → Type 0
   LeadsTo t p read = (sources : Sources) (used : ℕ) (behind : Behind) → left_read sources t p used behind ≡ read sources used behind
 
-  -- so many lines of a text are passed, and reading it leads to what is left of it
-  pub record Passed (old : TextLeft) (p : Progress) (now : LinesLeft) (q : Progress) : Type 0 where
-    pub count : ℕ
-    pub within : count ≤ length old.left.lines
-    pub left : now ≡ behind_lines count old.left
-    pub leads : LeadsTo old p (λ sources used behind. read_lines vars root sources old.text now.number 0 now.lines q used behind)
+  -- reading what is left of a text leads to what is left of it then
+  abbrev pub GoesOn : TextLeft → Progress → LinesLeft → Progress → Type 0
+  GoesOn old p now q = LeadsTo old p (λ sources used behind. left_read sources (left_of old.text now) q used behind)
 
   -- so it goes up to a place behind the last line or a `source` line, or to a refusal
   abbrev pub ReadsUp : TextLeft → Progress → Result TextStop KconfBad → LinesLeft → Progress → Type 0
   ReadsUp old p (Ok stop.End) now q = LeadsTo old p (λ sources used behind. at_end old.text q used behind)
   ReadsUp old p (Ok (stop.Source file line)) now q = IsPassed old.left now
-      × LeadsTo old p (λ sources used behind. sources old.text line file q used (λ r used. read_lines vars root sources old.text now.number 0 now.lines r used behind))
+      × LeadsTo old p (λ sources used behind. sources old.text line file q used (λ r used. left_read sources (left_of old.text now) r used behind))
   ReadsUp old p (Err refusal.Oom) now q = Unit {0}
   ReadsUp old p (Err e) now q = LeadsTo old p (λ sources used behind. refused used e)
+
+  -- the next line: it is passed, or the text stops there
+  abbrev pub ReadsNext : TextOf → LinesLeft → Progress → Result (Option TextStop) KconfBad → LinesLeft → Progress → Type 0
+  ReadsNext t old p (Ok None) now q = IsPassed old now × GoesOn (left_of t old) p now q
+  ReadsNext t old p (Ok (Some stop)) now q = ReadsUp (left_of t old) p (Ok stop) now q
+  ReadsNext t old p (Err e) now q = ReadsUp (left_of t old) p (Err e) now q
 
   -- reading goes to the end of a text, to a `source` line, or to a refusal
   abbrev pub ReadsOn : TextLeft → Progress → Result TextStop KconfBad → TextLeft → Progress → Type 0

@@ -1,4 +1,4 @@
-ghost use Rattle.std.specs.Prelude.{◌≡◌, ◌++◌, IfOk, OnOk, map};
+ghost use Rattle.std.specs.Prelude.{◌≡◌, ◌++◌, IfOk, OnOk};
 ghost use Rattle.kconf_parse.specs.Joined as spec;
 
 use crate::expr::Expr;
@@ -41,17 +41,6 @@ pub fn push_members(alloc: Global, list: &mut Vec<Expr>, condition: &Expr) -> Re
             Ok(())
         }
     }
-}
-
-/// The condition that all of these hold, from copies of them.
-pub fn all_of(alloc: Global, conditions: &[&Expr]) -> Result<Expr, AllocError>
-    ensures { IfOk result (λ e. e ≡ spec.all_of (map (λ c. c.now) conditions.now)) }
-{
-    let mut list = Vec::new(alloc);
-    for condition in conditions {
-        push_members(alloc, &mut list, condition)?;
-    }
-    Ok(joined(list))
 }
 
 /// The condition that all of these names are not n.

@@ -53,8 +53,18 @@ pub use first_laws::first_bad_line_is_named;
 pub use tree_file::read_tree;
 
 #[cfg(test)]
+mod entry_tests;
+#[cfg(test)]
+mod fault_tests;
+#[cfg(test)]
 mod line_tests;
 #[cfg(test)]
-mod tests;
+mod place_tests;
 #[cfg(test)]
-mod tree_tests;
+mod readings;
+#[cfg(test)]
+mod shown;
+#[cfg(test)]
+mod source_tests;
+#[cfg(test)]
+mod tests;

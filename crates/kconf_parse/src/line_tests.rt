@@ -1,14 +1,15 @@
 use crate::Var;
-use crate::expr::{Expr, Side, Sign};
 use crate::expression_ends::expression_len;
 use crate::expression_reader::{ExprBad, read_expression};
 use crate::line_words::{Form, LineWord, WordsBad};
 use crate::logical_lines::LineCursor;
+use crate::shown::push_expr;
 use crate::values::Values;
 use crate::words::words_of;
 use std::alloc::{AllocError, Global};
+use std::process::Abort;
 use std::test::Fail;
-use ut_logic::{Text, Trit};
+use ut_logic::Text;
 
 fn vars(alloc: Global) -> Result<Vec<Var>, Fail> {
     let mut list = Vec::new(alloc);
@@ -53,9 +54,16 @@ fn shown_words(alloc: Global, line: &str) -> Result<Vec<u8>, Fail> {
     Ok(shown)
 }
 
+fn check_words(rt: &impl Abort, alloc: Global, rows: &[(&str, &str)]) -> Result<(), Fail> {
+    for (line, want) in rows {
+        let shown = shown_words(alloc, *line)?;
+        assert!(rt; shown.as_slice() == want.as_bytes(), "{line}");
+    }
+    Ok(())
+}
+
 #[test]
-fn words_of_lines(rt: HostRuntime) -> Result<(), Fail> {
-    let alloc = rt.alloc();
+fn words_and_signs(rt: HostRuntime) -> Result<(), Fail> {
     let rows = [
         ("", ""),
         (" \t ", ""),
@@ -71,21 +79,35 @@ fn words_of_lines(rt: HostRuntime) -> Result<(), Fail> {
         ("!(A&&B||C)&D|", "s!|s(|bA|s&&|bB|s|||bC|s)|s&|bD|s||"),
         ("a : b, $c \\d", "ba|s:|bb|s,|s$|bc|s\\|bd|"),
         ("prompt \"a", "quote"),
+    ];
+    check_words(&rt, rt.alloc(), rows.as_slice())
+}
+
+#[test]
+fn quotes_and_macro_calls(rt: HostRuntime) -> Result<(), Fail> {
+    let rows = [
         ("prompt \"a\\", "quote"),
         ("prompt \"a $(b\" c", "quote"),
         ("depends on A$(b \"", "bracket"),
+        ("source \"arch/$(ARCH)/K\"", "bsource|qarch/x86/K|"),
+        ("source arch/$(ARCH)/$(NO)", "bsource|barch/x86/$(NO)!|"),
         (
             "depends on $(b \"#(\\)) )x",
             "bdepends|bon|b$(b \"#(\\))!|s)|bx|",
         ),
-        ("source \"arch/$(ARCH)/K\"", "bsource|qarch/x86/K|"),
-        ("source arch/$(ARCH)/$(NO)", "bsource|barch/x86/$(NO)!|"),
         (
             "a $(sh,$(ARCH)) $( ARCH )",
             "ba|b$(sh,$(ARCH))!|b$( ARCH )!|",
         ),
         ("a $(Q)b\"\\$(ARCH)\"", "ba|b\"$(ARCH)\" #b|q$(ARCH)|"),
         ("a $(E) \"$(E)\"", "ba|b|q|"),
+    ];
+    check_words(&rt, rt.alloc(), rows.as_slice())
+}
+
+#[test]
+fn lines_without_effect(rt: HostRuntime) -> Result<(), Fail> {
+    let rows = [
         ("quote := \"", ""),
         ("  A$(x y) += \"", ""),
         ("A= $(", ""),
@@ -97,94 +119,26 @@ fn words_of_lines(rt: HostRuntime) -> Result<(), Fail> {
         ("A ?= B", "bA|s?|s=|bB|"),
         ("\"A\" = \"B\"", "qA|s=|qB|"),
     ];
-    for (line, want) in rows {
-        let shown = shown_words(alloc, line)?;
-        assert!(rt; shown.as_slice() == want.as_bytes(), "{line}");
-    }
-    Ok(())
+    check_words(&rt, rt.alloc(), rows.as_slice())
 }
 
-fn push_side(text: &mut Vec<u8>, side: &Side) -> Result<(), AllocError> {
-    match side {
-        Side::Const(value) => push_trit(text, *value),
-        Side::Name(name) => text.extend_from_slice(name.text().as_bytes()),
-        Side::Literal(word) => {
-            text.push(b'#')?;
-            text.extend_from_slice(word.text().as_bytes())
-        }
-        Side::Quoted(word) => {
-            text.push(b'\'')?;
-            text.extend_from_slice(word.text().as_bytes())
-        }
+fn behind_first(words: &[LineWord]) -> &[LineWord] {
+    match words {
+        [_, rest @ ..] => rest,
+        [] => words,
     }
 }
 
-fn push_trit(text: &mut Vec<u8>, value: Trit) -> Result<(), AllocError> {
-    let byte = match value {
-        Trit::N => b'0',
-        Trit::M => b'1',
-        Trit::Y => b'2',
-    };
-    text.push(byte)?;
-    Ok(())
-}
-
-fn sign_byte(sign: Sign) -> u8 {
-    match sign {
-        Sign::Same => b'=',
-        Sign::Differ => b'~',
-        Sign::Less => b'<',
-        Sign::More => b'>',
-        Sign::LessSame => b'{',
-        Sign::MoreSame => b'}',
-    }
-}
-
-#[cycle(shown)]
-fn push_list(text: &mut Vec<u8>, list: &[Expr], head: u8) -> Result<(), AllocError> {
-    text.push(head)?;
-    text.push(b'[')?;
-    for part in list {
-        push_expr(text, part)?;
-        text.push(b',')?;
-    }
-    text.push(b']')?;
-    Ok(())
-}
-
-#[cycle(shown)]
-fn push_expr(text: &mut Vec<u8>, expr: &Expr) -> Result<(), AllocError> {
-    match expr {
-        Expr::Const(value) => push_trit(text, *value),
-        Expr::Name(name) => text.extend_from_slice(name.text().as_bytes()),
-        Expr::Outer(outer) => {
-            text.push(b'@')?;
-            text.extend_from_slice(outer.text().as_bytes())
-        }
-        Expr::Compare { left, sign, right } => {
-            push_side(text, left)?;
-            text.push(sign_byte(*sign))?;
-            push_side(text, right)
-        }
-        Expr::Neg(inner) => {
-            text.push(b'!')?;
-            push_expr(text, inner.get())
-        }
-        Expr::And(list) => push_list(text, list.as_slice(), b'&'),
-        Expr::Or(list) => push_list(text, list.as_slice(), b'|'),
-    }
-}
-
+/// The expression behind `if`, with a point for each word behind it, or why there is none.
 fn shown_expression(alloc: Global, line: &str) -> Result<Vec<u8>, Fail> {
     let values = Values::new(alloc, &[])?;
     let mut text = Vec::from_slice(alloc, b"if ".as_slice())?;
     text.extend_from_slice(line.as_bytes())?;
     let words = words_of(alloc, text.as_slice(), &values)?;
     let mut shown = Vec::new(alloc);
-    match read_expression(alloc, &words.as_slice()[1..]) {
+    match read_expression(alloc, behind_first(words.as_slice())) {
         Ok((expr, rest)) => {
             push_expr(&mut shown, &expr)?;
-            shown.push(b' ')?;
             for _ in rest {
                 shown.push(b'.')?;
             }
@@ -196,33 +150,58 @@ fn shown_expression(alloc: Global, line: &str) -> Result<Vec<u8>, Fail> {
     Ok(shown)
 }
 
+fn check_expressions(rt: &impl Abort, alloc: Global, rows: &[(&str, &str)]) -> Result<(), Fail> {
+    for (line, want) in rows {
+        let shown = shown_expression(alloc, *line)?;
+        assert!(rt; shown.as_slice() == want.as_bytes(), "{line}");
+    }
+    Ok(())
+}
+
 #[test]
-fn expressions_of_lines(rt: HostRuntime) -> Result<(), Fail> {
-    let alloc = rt.alloc();
+fn lists_and_operands(rt: HostRuntime) -> Result<(), Fail> {
     let rows = [
-        ("A", "A "),
-        ("y", "2 "),
-        ("\"m\"", "1 "),
-        ("12", "0 "),
-        ("\"word\"", "0 "),
-        ("A if B", "A .."),
-        ("if", "if "),
-        ("A || B && C || D", "|[A,&[B,C,],D,] "),
-        ("(A || B) || (C || D)", "|[A,B,C,D,] "),
-        ("A && (B || C) && D", "&[A,|[B,C,],D,] "),
-        ("!A && !(B && C)", "&[!A,!&[B,C,],] "),
-        ("!A = B", "!A=B "),
-        ("A != \"b\"", "A~'b "),
-        ("\"y\" >= -12", "2}#-12 "),
-        ("A <= 0x1F", "A{#0x1F "),
-        ("\"$(b)\"", "@$(b) "),
-        ("$(b) = \"x\"", "@$(b) = \"x\" "),
-        ("\"y\" < \"$(b)\"", "@y < \"$(b)\" "),
-        ("(A) = B", "A .."),
-        ("A = B = C", "A=B .."),
-        ("A B", "A ."),
-        ("A )", "A ."),
-        ("A &", "A ."),
+        ("A", "A"),
+        ("y", "y"),
+        ("\"m\"", "m"),
+        ("12", "n"),
+        ("\"word\"", "n"),
+        ("A if B", "A.."),
+        ("if", "if"),
+        ("A || B && C || D", "(or A (and B C) D)"),
+        ("(A || B) || (C || D)", "(or A B C D)"),
+        ("A && (B || C) && D", "(and A (or B C) D)"),
+        ("!A && !(B && C)", "(and !A !(and B C))"),
+        ("\"$(b)\"", "<$(b)>"),
+    ];
+    check_expressions(&rt, rt.alloc(), rows.as_slice())
+}
+
+#[test]
+fn comparisons_of_words(rt: HostRuntime) -> Result<(), Fail> {
+    let rows = [
+        ("A = B", "A=B"),
+        ("!A = B", "!A=B"),
+        ("A != \"b\"", "A!='b'"),
+        ("\"y\" >= -12", "y>=#-12"),
+        ("A <= 0x1F", "A<=#0x1F"),
+        ("n < A", "n<A"),
+        ("'m' > 'mm'", "m>'mm'"),
+        ("$(b) = \"x\"", "<$(b) = \"x\">"),
+        ("\"y\" < \"$(b)\"", "<y < \"$(b)\">"),
+        ("(A) = B", "A.."),
+        ("A = B = C", "A=B.."),
+        ("(A = B) = C", "A=B.."),
+    ];
+    check_expressions(&rt, rt.alloc(), rows.as_slice())
+}
+
+#[test]
+fn ends_of_expressions(rt: HostRuntime) -> Result<(), Fail> {
+    let rows = [
+        ("A B", "A."),
+        ("A )", "A."),
+        ("A &", "A."),
         ("", "absent"),
         ("A &&", "absent"),
         ("A = ", "absent"),
@@ -234,11 +213,7 @@ fn expressions_of_lines(rt: HostRuntime) -> Result<(), Fail> {
         ("&& A", "absent"),
         (": A", "absent"),
     ];
-    for (line, want) in rows {
-        let shown = shown_expression(alloc, line)?;
-        assert!(rt; shown.as_slice() == want.as_bytes(), "{line}");
-    }
-    Ok(())
+    check_expressions(&rt, rt.alloc(), rows.as_slice())
 }
 
 /// A line of so many signs over a word, of each kind in turn.
@@ -268,27 +243,24 @@ fn two_hundred_signs_over_a_word(rt: HostRuntime) -> Result<(), Fail> {
     Ok(())
 }
 
+/// The next line, with its number; behind `help` the help text is passed.
+fn shown_line(alloc: Global, lines: &mut LineCursor<'_>) -> Result<String, Fail> {
+    let line = lines.next_line(alloc)?.ok_or("a line")?;
+    if line.bytes() == b"\thelp".as_slice() {
+        lines.skip_help();
+    }
+    let text = str::from_utf8(line.bytes()).map_err(|_| Fail::from("a text"))?;
+    Ok(format!(in alloc; "{} {}", line.number, text)?)
+}
+
 #[test]
 fn lines_of_a_text(rt: HostRuntime) -> Result<(), Fail> {
     let alloc = rt.alloc();
     let text = "config A\r\n\thelp\n\n\t  a\\\n  \t  b\n \t \n\t c\nconfig\\\r\n B \\\n\nlast\\";
     let mut lines = LineCursor::new(text.as_bytes());
-    let rows = [
-        (1, "config A", false),
-        (2, "\thelp", true),
-        (7, "\t c", false),
-        (8, "config B ", false),
-        (11, "last", false),
-    ];
-    for (number, bytes, is_help) in rows {
-        let line = lines.next_line(alloc)?.ok_or("a line")?;
-        assert!(rt;
-            line.number == number && line.bytes() == bytes.as_bytes(),
-            "{number}"
-        );
-        if is_help {
-            lines.skip_help();
-        }
+    for want in ["1 config A", "2 \thelp", "7 \t c", "8 config B ", "11 last"] {
+        let shown = shown_line(alloc, &mut lines)?;
+        assert!(rt; shown.as_str() == want, "{want}");
     }
     assert!(rt; lines.next_line(alloc)?.is_none());
     Ok(())

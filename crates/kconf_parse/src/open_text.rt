@@ -165,6 +165,35 @@ impl OpenText {
         }
     }
 
+    /// Reads the next line, with the help text behind it, and tells where the text stops.
+    fn read_next(
+        &self,
+        alloc: Global,
+        root: &Name,
+        values: &Values<'_>,
+        cursor: &mut LineCursor<'_>,
+        progress: &mut Progress,
+    ) -> Result<Option<TextStop>, KconfBad>
+        ensures reads { inner.ReadsNext values.now root.now self.now.text cursor.old progress.old result cursor.new progress.new }
+        ensures own { IfErr result inner.IsOfLine }
+    {
+        let Some(line) = cursor.next_line(alloc)? else {
+            return Ok(Some(TextStop::End));
+        };
+        match read_line(alloc, root, values, self.floor, &line, progress) {
+            Ok(Follows::Line) => Ok(None),
+            Ok(Follows::Help) => {
+                cursor.skip_help();
+                Ok(None)
+            }
+            Ok(Follows::Text(file)) => Ok(Some(TextStop::Source {
+                file,
+                line: line.number,
+            })),
+            Err(bad) => Err(self.refusal(alloc, line.number, bad)),
+        }
+    }
+
     /// Reads lines up to a `source` line or the end, from the place of the cursor on.
     fn read_lines(
         &self,
@@ -174,24 +203,14 @@ impl OpenText {
         cursor: &mut LineCursor<'_>,
         progress: &mut Progress,
     ) -> Result<TextStop, KconfBad>
-        requires { self.now.left ≡ cursor.old }
-        ensures reads { inner.ReadsUp values.now root.now self.now progress.old result cursor.new progress.new }
+        ensures reads { inner.ReadsUp values.now root.now (inner.left_of self.now.text cursor.old) progress.old result cursor.new progress.new }
         ensures own { IfErr result inner.IsOfLine }
     {
-        'lines: while let Some(line) = cursor.next_line(alloc)? {
-            match read_line(alloc, root, values, self.floor, &line, progress) {
-                Ok(Follows::Line) => {}
-                Ok(Follows::Help) => cursor.skip_help(),
-                Ok(Follows::Text(file)) => {
-                    return Ok(TextStop::Source {
-                        file,
-                        line: line.number,
-                    });
-                }
-                Err(bad) => return Err(self.refusal(alloc, line.number, bad)),
+        'lines: loop {
+            if let Some(stop) = self.read_next(alloc, root, values, cursor, progress)? {
+                return Ok(stop);
             }
         }
-        Ok(TextStop::End)
     }
 
     /// The text ends: each opener of it has its end word.

@@ -1,0 +1,238 @@
+use crate::readings::{check_texts, told, var};
+use std::test::Fail;
+
+#[test]
+fn entries_and_their_dependencies(rt: HostRuntime) -> Result<(), Fail> {
+    let rows = [
+        ("", ""),
+        ("mainmenu \"x\"\ncomment y\ndepends on A", ""),
+        (
+            "menu \"x\"\n\tdepends on P\nconfig A\n\tbool \"a\" if Q\n\tdepends on R || S\nendmenu\nconfig B",
+            "A bool depends (and P (or R S)) prompt (and Q P (or R S)); B untyped depends y; ",
+        ),
+        (
+            "config M\n\tbool \"m\"\n\toption modules\n\tdefault \"y\" if A\n\tselect B if C\n\tdepends on D && E\nconfig M\nmodules\noption env=\"x\"",
+            "M bool depends (and D E) prompt (and D E) default y 'y' if (and A D E) select B if (and C D E) modules; M untyped depends y modules; ",
+        ),
+        (
+            "if A && B\nchoice C\n\tprompt \"c\" if D\n\toptional\n\tdefault X if E\n\tdepends on F\ncomment x\n\tdepends on G\nif H\nconfig X\n\tbool \"x\"\n\tdepends on I\nendif\nconfig Y\n\ttristate\nendchoice\nendif",
+            "X bool in 0 depends (and A B F H I) prompt (and A B F H I); Y tristate in 0 depends (and A B F); choice untyped optional prompt (and D A B F) default X if (and E A B F); ",
+        ),
+        (
+            "config A\n\tdepends on y\n\tdepends on !B || n\n\tdefault 0x1F if B = \"x y\"\n\tdefault ('z')",
+            "A untyped depends (or !B n) default n '0x1F' if (and B='x y' (or !B n)) default n if (or !B n); ",
+        ),
+        (
+            "menuconfig A\n\tbool\n\tint\n\tdef_tristate B if C\n\tprompt D\n\tprompt if if E",
+            "A bool depends y prompt y prompt E default B if C; ",
+        ),
+    ];
+    check_texts(&rt, rt.alloc(), rows.as_slice())
+}
+
+#[test]
+fn values_and_conditions(rt: HostRuntime) -> Result<(), Fail> {
+    let rows = [
+        (
+            "config A\ndefault \"y\" if 'm'",
+            "A untyped depends y default y 'y' if m; ",
+        ),
+        (
+            "config A\ndefault m && B",
+            "A untyped depends y default (and m B) if y; ",
+        ),
+        (
+            "config A\ndefault n",
+            "A untyped depends y default n if y; ",
+        ),
+        (
+            "config A\nhex\ndefault 0xfe",
+            "A hex depends y default n '0xfe' if y; ",
+        ),
+        (
+            "config A\ndefault -7 if B",
+            "A untyped depends y default n '-7' if B; ",
+        ),
+        (
+            "config A\ndefault a-b/c.d",
+            "A untyped depends y default n 'a-b/c.d' if y; ",
+        ),
+        ("config A\nint\nrange 1 B if C", "A int depends y; "),
+        (
+            "config A\ndepends on B = C && B != y && B < 5 && B > \"x\" && B <= 0x1F && \"m\" >= B",
+            "A untyped depends (and B=C B!=y B<#5 B>'x' B<=#0x1F m>=B); ",
+        ),
+        (
+            "config A\ndepends on B || C\ndepends on 'y'\ndepends on D && (E && F)",
+            "A untyped depends (and (or B C) D E F); ",
+        ),
+    ];
+    check_texts(&rt, rt.alloc(), rows.as_slice())
+}
+
+#[test]
+fn help_texts(rt: HostRuntime) -> Result<(), Fail> {
+    let rows = [
+        (
+            "config A\n\thelp\n\t  text\n\n\t   more\n\tbool",
+            "A bool depends y; ",
+        ),
+        (
+            "config A\n---help---\n\ttext\n        bool\n config B",
+            "A untyped depends y; B untyped depends y; ",
+        ),
+        ("config A\nhelp\n  a\n \tb\n  bool", "A untyped depends y; "),
+        ("config A\nhelp\n  a\n bool", "A bool depends y; "),
+        ("config A\nhelp\n\n \t \n  a\nbool", "A bool depends y; "),
+        ("config A\nbool\nhelp", "A bool depends y; "),
+        ("config A\nbool\nhelp\n\n", "A bool depends y; "),
+        ("config A\nhelp\nbool", "A bool depends y; "),
+        ("config A\nhelp\n\nbool", "A bool depends y; "),
+        (
+            "config A\nhelp\n  it's \"\n  $(\nbool",
+            "A bool depends y; ",
+        ),
+        ("config A\nhelp\n  a\\\nbool", "A bool depends y; "),
+        ("config A\r\nhelp\r\n  a\r\n\r\n b\r\n", "Kconfig:5: Word"),
+        (
+            "choice\nhelp\n  text\nconfig A\nendchoice",
+            "A untyped in 0 depends y; choice untyped; ",
+        ),
+    ];
+    check_texts(&rt, rt.alloc(), rows.as_slice())
+}
+
+#[test]
+fn quotes_round_macro_calls(rt: HostRuntime) -> Result<(), Fail> {
+    let rows = [
+        (
+            "config A\ndefault \"$(x,\"a\")\"",
+            "A untyped depends y default <$(x,\"a\")> if y; ",
+        ),
+        (
+            "config A\ndefault $(x,'a)#)",
+            "A untyped depends y default <$(x,'a)> if y; ",
+        ),
+        (
+            "config A\ndefault $(a(b)#c)d",
+            "A untyped depends y default <$(a(b)#c)d> if y; ",
+        ),
+        (
+            "config A\ndefault 'a\"b#'",
+            "A untyped depends y default n 'a\"b#' if y; ",
+        ),
+        (
+            "config A\ndefault \"a'b\" # c",
+            "A untyped depends y default n 'a'b' if y; ",
+        ),
+        (
+            "config A\ndefault $(a,$(b)) if \"$(c)\" = 'y'",
+            "A untyped depends y default <$(a,$(b))> if <\"$(c)\" = y>; ",
+        ),
+        (
+            "config A\nbool \"a$(x)\" if $(x) && B",
+            "A bool depends y prompt (and <$(x)> B); ",
+        ),
+    ];
+    check_texts(&rt, rt.alloc(), rows.as_slice())
+}
+
+#[test]
+fn backslashes_and_line_ends(rt: HostRuntime) -> Result<(), Fail> {
+    let rows = [
+        ("config \\\nA\n\tbool", "A bool depends y; "),
+        (
+            "config A\nbool \"a\\\"b\" if C",
+            "A bool depends y prompt C; ",
+        ),
+        (
+            "config A\ndefault \"a\\\\\"",
+            "A untyped depends y default n 'a\\' if y; ",
+        ),
+        ("config A\ndefault \"a\\\"", "Kconfig:2: Quote"),
+        (
+            "config A\ndefault \"a\\\nb\"",
+            "A untyped depends y default n 'ab' if y; ",
+        ),
+        ("config A\ndefault \\\n\\\n&&", "Kconfig:2: Expression"),
+        ("# a\\\nconfig A", ""),
+        ("config A\\ B", "Kconfig:1: Extra"),
+        ("config \\ \nA", "Kconfig:1: Named"),
+        (
+            "config A\r\n\tbool \"a\"\r\n\tdepends on B \\\r\n\t && C\r\n",
+            "A bool depends (and B C) prompt (and B C); ",
+        ),
+        ("config A\r", "Kconfig:1: Extra"),
+    ];
+    check_texts(&rt, rt.alloc(), rows.as_slice())
+}
+
+#[test]
+fn bytes_past_127(rt: HostRuntime) -> Result<(), Fail> {
+    let rows = [
+        (
+            "config A # \u{e9}\nbool \"\u{e9}\"\nhelp\n  \u{e9}",
+            "A bool depends y prompt y; ",
+        ),
+        (
+            "config A\ndefault \"\u{e9}\"",
+            "A untyped depends y default n '\\xc3\\xa9' if y; ",
+        ),
+        ("config \u{e9}", "Kconfig:1: Named"),
+        ("config A\u{e9}", "Kconfig:1: Extra"),
+        ("menu \u{e9}", "Kconfig:1: Expression"),
+        ("\u{e9}", "Kconfig:1: Word"),
+    ];
+    check_texts(&rt, rt.alloc(), rows.as_slice())
+}
+
+#[test]
+fn values_that_are_handed_in(rt: HostRuntime) -> Result<(), Fail> {
+    let alloc = rt.alloc();
+    let mut vars = Vec::new(alloc);
+    for (name, value) in [
+        ("ARCH", "x86"),
+        ("Y", "y"),
+        ("BITS", "64"),
+        ("Q", "$(z)"),
+        ("E", ""),
+    ] {
+        vars.push(var(alloc, name, value)?)?;
+    }
+    let rows = [
+        ("config $(ARCH)", "x86 untyped depends y; "),
+        ("config $(ARCH)_$(BITS)", "x86_64 untyped depends y; "),
+        ("config $(BITS)", "Kconfig:1: Named"),
+        ("config $(z)", "Kconfig:1: Named"),
+        (
+            "config A\ndefault \"$(ARCH)\"",
+            "A untyped depends y default n 'x86' if y; ",
+        ),
+        (
+            "config A\ndefault $(BITS) if $(Y)",
+            "A untyped depends y default n '64' if y; ",
+        ),
+        (
+            "config A\ndefault $(x,$(ARCH))",
+            "A untyped depends y default <$(x,$(ARCH))> if y; ",
+        ),
+        (
+            "config A\ndefault \"$(Q)\"",
+            "A untyped depends y default n '$(z)' if y; ",
+        ),
+        (
+            "config A\ndefault $(E)",
+            "A untyped depends y default n '' if y; ",
+        ),
+        (
+            "config A\ndepends on $(ARCH) = 'x86'",
+            "A untyped depends x86='x86'; ",
+        ),
+        ("$(ARCH) A", ""),
+    ];
+    for (text, want) in rows {
+        let shown = told(alloc, &[("Kconfig", text)], vars.as_slice())?;
+        assert!(rt; shown.as_slice() == want.as_bytes(), "{text}");
+    }
+    Ok(())
+}
