@@ -1,6 +1,6 @@
 -- Laws of reading the open texts: how many bytes are taken where it breaks off, and what a turn leads to.
-use Rattle.std.proofs.Common.{◌≡◌, ◌<◌, ◌≤◌, ◌+◌, ◌-◌, ◌*◌, ◌^◌, ◌++◌, ℕ, suc, zero, Bool, true, false, Option, None, Some, List, [], ◌∷◌, length, map, Contains, Result, Ok, Err, if◌then◌else◌, nat_lt, refl, ap, sym, subst, ◌∙◌, ◌⊎◌, inl, inr, append_assoc, arith}
-use Rattle.std.proofs.lemmas.List.Elements.{Contains-append_left, Contains-append_right}
+use Rattle.std.proofs.Common.{◌≡◌, ◌<◌, ◌≤◌, ◌+◌, ◌-◌, ◌++◌, ℕ, suc, zero, Bool, true, false, Option, None, Some, List, [], ◌∷◌, length, map, Contains, Result, Ok, Err, if◌then◌else◌, refl, ap, sym, subst, ◌∙◌, ◌⊎◌, inl, inr, append_assoc, arith}
+use Rattle.std.proofs.lemmas.List.Elements.{Contains-append_right}
 use Rattle.std.specs.Option.{IfSome}
 use Rattle.std.specs.FinMap.{get}
 use Rattle.ut_base.specs.Outside.{Held, HasCause}
@@ -17,8 +17,8 @@ use Rattle.std.proofs.lemmas.Bool.{true≢false, cond-true, cond-false, le-ltb, 
 use Rattle.kconf_parse.specs.Lines.{lines_of}
 use Rattle.kconf_parse.specs.Entries.{Progress, at_start, line_of_opener, ending}
 use Rattle.kconf_parse.specs.LogicalLines.{joined_count, joined_text}
-use Rattle.kconf_parse.specs.Texts.{TextOf, Sources, Behind, Reading, refused, all_read, asking, at_line, at_end, closed_by, lines_taken, line_read, behind_line, stepped, read_lines, file_read, read_file, sourced, reading}
-use Rattle.kconf_parse.specs.TextReading.{TextLeft, LeadsTo, IsOfLine, ReadsOn, left_read, resumed, rest_read}
+use Rattle.kconf_parse.specs.Texts.{TextOf, Sources, Behind, Reading, refused, all_read, asking, at_line, closed_by, lines_taken, line_read, stepped, read_lines, file_read, read_file, sourced, reading}
+use Rattle.kconf_parse.specs.TextReading.{TextLeft, LeadsTo, IsOfLine, ReadsOn, left_read, resumed}
 use Rattle.kconf_parse.specs.OpenTexts.{TextsLeft, Leaves, Opens, entered, ahead, goes_on, from_root, Turns}
 use Rattle.kconf_parse.specs.TreeFile.{amounts, FailsFrom, TreeFrom, TreeWithin, IsWithin}
 

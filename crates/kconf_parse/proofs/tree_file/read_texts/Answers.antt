@@ -1,4 +1,4 @@
-use Rattle.std.proofs.Common.{◌≡◌, Err, refl, ◌∙◌, arith}
+use Rattle.std.proofs.Common.{Err, refl, ◌∙◌, arith}
 use Rattle.std.proofs.lemmas.Result.{err_from_is_err_and}
 use Rattle.ut_base.specs.Outside.{Held}
 use Rattle.kconf_parse.specs.declared.entries.Entries.{Entries}
