@@ -1,6 +1,6 @@
 -- Laws of reading the open texts: how many bytes are taken where it breaks off, and what a turn leads to.
-use Rattle.std.proofs.Common.{◌≡◌, ◌<◌, ◌≤◌, ◌+◌, ◌-◌, ◌*◌, ◌^◌, ◌++◌, ℕ, suc, zero, Bool, true, false, Option, None, Some, List, [], ◌∷◌, length, map, Contains, Result, Ok, Err, if◌then◌else◌, nat_lt, refl, ap, sym, subst, ◌∙◌, ◌⊎◌, inl, inr, append_assoc, arith}
-use Rattle.std.proofs.lemmas.List.Elements.{Contains-append_left, Contains-append_right}
+use Rattle.std.proofs.Common.{◌≡◌, ◌<◌, ◌≤◌, ◌+◌, ◌-◌, ◌++◌, ℕ, suc, zero, Bool, true, false, Option, None, Some, List, [], ◌∷◌, length, map, Contains, Result, Ok, Err, if◌then◌else◌, refl, ap, sym, subst, ◌∙◌, ◌⊎◌, inl, inr, append_assoc, arith}
+use Rattle.std.proofs.lemmas.List.Elements.{Contains-append_right}
 use Rattle.std.specs.Option.{IfSome}
 use Rattle.std.specs.FinMap.{get}
 use Rattle.ut_base.specs.Outside.{Held, HasCause}
@@ -17,9 +17,9 @@ use Rattle.std.proofs.lemmas.Bool.{true≢false, cond-true, cond-false, le-ltb, 
 use Rattle.kconf_parse.specs.Lines.{lines_of}
 use Rattle.kconf_parse.specs.Entries.{Progress, at_start, line_of_opener, ending}
 use Rattle.kconf_parse.specs.LogicalLines.{joined_count, joined_text}
-use Rattle.kconf_parse.specs.Texts.{TextOf, Sources, Behind, Reading, refused, all_read, asking, at_line, at_end, closed_by, lines_taken, line_read, behind_line, stepped, read_lines, file_read, read_file, sourced, reading}
-use Rattle.kconf_parse.specs.TextReading.{TextLeft, LeadsTo, IsOfLine, ReadsOn, left_read, resumed, rest_read}
-use Rattle.kconf_parse.specs.OpenTexts.{TextsLeft, Leaves, Opens, Taken, root_alone, entered, ahead, goes_on, Turns}
+use Rattle.kconf_parse.specs.Texts.{TextOf, Sources, Behind, Reading, refused, all_read, asking, at_line, closed_by, lines_taken, line_read, stepped, read_lines, file_read, read_file, sourced, reading}
+use Rattle.kconf_parse.specs.TextReading.{TextLeft, LeadsTo, IsOfLine, ReadsOn, left_read, resumed}
+use Rattle.kconf_parse.specs.OpenTexts.{TextsLeft, Leaves, Opens, entered, ahead, goes_on, from_root, Turns}
 use Rattle.kconf_parse.specs.TreeFile.{amounts, FailsFrom, TreeFrom, TreeWithin, IsWithin}
 
 -- the bytes taken so far are those at which the reading may break off
@@ -212,7 +212,7 @@ module _ (vars : List Var) (root : List ℕ) (held : Held) where
 
   -- the root text: the reading begins in it
   pub root_entered : (used now : ℕ) (t : TextLeft) → Opens root 0 (get held root) used now (Ok t)
-      → reading vars root held used ≡ asking root used (goes_on vars root held (root_alone t) at_start now)
+      → reading vars root held used ≡ asking root used (from_root vars root held t now)
   root_entered used now t opens = file_opened (sourced vars root held 64) root at_start used now all_read t opens
 
   pub root_not_entered : (used now : ℕ) (e : KconfBad) → Opens root 0 (get held root) used now (Err e)
@@ -317,10 +317,10 @@ module _ (vars : List Var) (root : List ℕ) where
 
   -- the root text is opened, or refused
   told_whole : (o : Option Held) (used mid now : ℕ) (t : TextLeft) (r : Result Entries KconfBad) → IfSome o (λ m. Opens root 0 (get m root) used mid (Ok t))
-      → IfSome o (λ m. TreeFrom (goes_on vars root m (root_alone t) at_start mid) now r) → IfSome o (λ m. TreeFrom (reading vars root m used) now r)
+      → IfSome o (λ m. TreeFrom (from_root vars root m t mid) now r) → IfSome o (λ m. TreeFrom (reading vars root m used) now r)
   told_whole None used mid now t r opens is = tt
   told_whole (Some m) used mid now t r opens is =
-      from_ahead (reading vars root m used) (goes_on vars root m (root_alone t) at_start mid) now r ((root, used) ∷ [], root_entered vars root m used mid t opens) is
+      from_ahead (reading vars root m used) (from_root vars root m t mid) now r ((root, used) ∷ [], root_entered vars root m used mid t opens) is
 
   no_root : (o : Option Held) (used now : ℕ) (e : KconfBad) → IfSome o (λ m. Opens root 0 (get m root) used now (Err e))
       → IfSome o (λ m. FailsFrom (reading vars root m used) now e)
@@ -339,11 +339,11 @@ module _ (vars : List Var) (root : List ℕ) where
   -- behind the root text, by an equal name and equal values
   pub told_root : (o n : Option Held) → n ≡ o → (values : List Var) → values ≡ vars → (name : List ℕ) → name ≡ root → (used mid now : ℕ) (t : TextLeft) (r : Result Entries KconfBad)
       → IfSome o (λ m. Opens name 0 (get m name) used mid (Ok t))
-      → IfSome n (λ m. TreeFrom (goes_on values root m (root_alone t) at_start mid) now r) → IfSome o (λ m. TreeFrom (reading vars root m used) now r)
+      → IfSome n (λ m. TreeFrom (from_root values root m t mid) now r) → IfSome o (λ m. TreeFrom (reading vars root m used) now r)
   told_root o n same values e name is used mid now t r opens reads =
       told_whole o used mid now t r (subst (λ name. IfSome o (λ m. Opens name 0 (get m name) used mid (Ok t))) is opens)
-      (subst (λ o. IfSome o (λ m. TreeFrom (goes_on vars root m (root_alone t) at_start mid) now r)) same
-      (subst (λ vs. IfSome n (λ m. TreeFrom (goes_on vs root m (root_alone t) at_start mid) now r)) e reads))
+      (subst (λ o. IfSome o (λ m. TreeFrom (from_root vars root m t mid) now r)) same
+      (subst (λ vs. IfSome n (λ m. TreeFrom (from_root vs root m t mid) now r)) e reads))
 
 -- a cause that comes later has come since an earlier time too
 pub since : (a b c : ℕ) (came : Type 0) → a ≤ b → HasCause b c came → HasCause a c came

@@ -1,5 +1,5 @@
 -- Laws of the number that falls with each turn: the lines that are left of the open texts, those of the outer ones first.
-use Rattle.std.proofs.Common.{◌≡◌, ◌<◌, ◌≤◌, ◌+◌, ◌-◌, ◌*◌, ◌^◌, ◌==◌, ◌&&◌, ℕ, suc, zero, Bool, true, false, Option, None, Some, List, [], ◌∷◌, length, if◌then◌else◌, refl, ap, sym, subst, ◌∙◌, add-zero, arith}
+use Rattle.std.proofs.Common.{◌≡◌, ◌<◌, ◌≤◌, ◌+◌, ◌-◌, ◌*◌, ◌^◌, ◌==◌, ◌&&◌, ℕ, suc, zero, Bool, true, false, Option, None, Some, List, [], ◌∷◌, length, if◌then◌else◌, ap, sym, subst, ◌∙◌, add-zero, arith}
 use Rattle.std.specs.Option.{IsSome}
 use Rattle.std.proofs.lemmas.Bool.{false≢true}
 use Rattle.std.proofs.Math.Nat.{mul_comm, mul_assoc, pow-suc, pow-zero}

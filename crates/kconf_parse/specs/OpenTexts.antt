@@ -1,5 +1,5 @@
 -- The texts that are open, as their readers see them: the text that is read, and those that source it.
-use Rattle.std.specs.Prelude.{◌≡◌, ◌<◌, ◌≤◌, ◌+◌, ◌-◌, ◌*◌, ◌^◌, ◌++◌, ℕ, List, [], ◌∷◌, length, map, Option, None, Some, Contains, Result, Ok, Err}
+use Rattle.std.specs.Prelude.{◌≡◌, ◌<◌, ◌≤◌, ◌+◌, ◌-◌, ◌*◌, ◌^◌, ◌++◌, ℕ, List, [], ◌∷◌, length, Option, None, Some, Result, Ok, Err}
 use Rattle.ut_base.specs.Outside.{Held, IsLonger}
 use Rattle.ut_base.specs.declared.limits.Limit.TheVariants as limit
 use Rattle.ut_base.specs.declared.meter.TakeBad.{TakeBad}
@@ -8,7 +8,7 @@ use Rattle.kconf_parse.specs.declared.bad.KconfBad.{KconfBad}
 use Rattle.kconf_parse.specs.declared.bad.KconfBad.TheVariants as bad
 use Rattle.kconf_parse.specs.declared.entries.Var.{Var}
 use Rattle.kconf_parse.specs.LogicalLines.{all_lines}
-use Rattle.kconf_parse.specs.Entries.{Progress}
+use Rattle.kconf_parse.specs.Entries.{Progress, at_start}
 use Rattle.kconf_parse.specs.Texts.{Reading, all_read}
 use Rattle.kconf_parse.specs.TextReading.{TextLeft, rest_read}
 use Rattle.kconf_parse.specs.TreeFile.{FailsFrom}
@@ -78,6 +78,10 @@ module _ (vars : List Var) (root : List ℕ) (held : Held) where
   -- what reading goes on to from the open texts
   abbrev pub goes_on : TextsLeft → Progress → ℕ → Reading
   goes_on texts p used = rest_read vars root held texts.text texts.sourcing p used
+
+  -- what reading the root text comes to, of which no line is read
+  abbrev pub from_root : TextLeft → ℕ → Reading
+  from_root text used = goes_on (root_alone text) at_start used
 
   -- a turn leads to other open texts, or to the end, or to a refusal
   abbrev pub Turns : TextsLeft → Progress → ℕ → {A : Type 0} → Result (Option A) KconfBad → TextsLeft → Progress → ℕ → Type 0

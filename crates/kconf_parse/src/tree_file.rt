@@ -1,7 +1,6 @@
 ghost use Rattle.std.specs.Prelude.{◌≡◌, ◌<◌, ◌≤◌, IfSome, IfOk, IsSome, length};
 ghost use Rattle.std.specs.FinMap.{get};
 ghost use Rattle.ut_base.specs.Outside.{HasCause};
-ghost use Rattle.kconf_parse.specs.Entries.{at_start};
 ghost use Rattle.kconf_parse.specs.Texts.{reading};
 ghost use Rattle.kconf_parse.specs.OpenTexts as inner;
 ghost use Rattle.kconf_parse.specs.TreeFile.{TreeFrom, TreeWithin, IsMissing, IsReadFault, IsTooLong};
@@ -61,7 +60,7 @@ fn read_texts<F: Files>(
     text: OpenText,
 ) -> Result<Entries, KconfBad>
     requires { meter.old ≤ 536870912 }
-    ensures told { IfSome (F.held files.old) (λ m. TreeFrom (inner.goes_on values.now root.now m (inner.root_alone text) at_start meter.old) meter.new result) }
+    ensures told { IfSome (F.held files.old) (λ m. TreeFrom (inner.from_root values.now root.now m text meter.old) meter.new result) }
     ensures same { F.held files.new ≡ F.held files.old }
     ensures within { TreeWithin meter.old meter.new result }
     ensures read_fault { HasCause (F.faults files.old) (F.faults files.new) (IsReadFault result) }

@@ -1,9 +1,9 @@
-use Rattle.std.proofs.Common.{◌≡◌, Err, refl, ◌∙◌, arith}
+use Rattle.std.proofs.Common.{Err, refl, ◌∙◌, arith}
 use Rattle.std.proofs.lemmas.Result.{err_from_is_err_and}
 use Rattle.ut_base.specs.Outside.{Held}
 use Rattle.kconf_parse.specs.declared.entries.Entries.{Entries}
 use Rattle.kconf_parse.specs.Entries.{at_start}
-use Rattle.kconf_parse.specs.OpenTexts.{root_alone, goes_on}
+use Rattle.kconf_parse.specs.OpenTexts.{root_alone, from_root}
 use Rattle.kconf_parse.specs.TreeFile.{IsMissing, IsReadFault, IsTooLong}
 use Rattle.kconf_parse.proofs.TreeLemmas.{told_start, told_on, told_end, told_fails, since, within_since}
 use Rattle.kconf_parse.proofs.tree_file.read_texts.Goals as goal
@@ -29,7 +29,7 @@ turn-requires-clause-used g c = c.texts.invariant.used
 
 pub texts-preserved : goal.texts-preserved
 texts-preserved g c =
-    let whole = λ (m : Held). goes_on c.args.values.now c.args.root.now m (root_alone c.args.text) at_start c.args.meter.now in
+    let whole = λ (m : Held). from_root c.args.values.now c.args.root.now m c.args.text c.args.meter.now in
     let told = rw c.in-Some.is at c.in_ok-turn.ensures.told in
     record {
       depth = c.in_ok-turn.ensures.depth;
@@ -46,7 +46,7 @@ texts-preserved g c =
 pub returns-in_err-turn-clause-told : goal.returns-in_err-turn-clause-told
 returns-in_err-turn-clause-told g c =
     let p = err_from_is_err_and c.from_residual.result c.from_residual.ensures.1 in
-    let whole = λ (m : Held). goes_on c.args.values.now c.args.root.now m (root_alone c.args.text) at_start c.args.meter.now in
+    let whole = λ (m : Held). from_root c.args.values.now c.args.root.now m c.args.text c.args.meter.now in
     rw (p.1, p.2) (told_fails c.args.values.now c.args.root.now whole (g.F.Files.held c.args.files.now) (g.F.Files.held c.texts.files) c.texts.invariant.same
     c.texts.texts c.texts.progress c.texts.meter c.turn.new.meter c.in_err-turn.field-0.0 c.texts.invariant.told c.in_err-turn.ensures.told)
 
@@ -78,7 +78,7 @@ returns-in_err-turn-clause-long g c =
 
 pub returns-clause-told : goal.returns-clause-told
 returns-clause-told g c =
-    let whole = λ (m : Held). goes_on c.args.values.now c.args.root.now m (root_alone c.args.text) at_start c.args.meter.now in
+    let whole = λ (m : Held). from_root c.args.values.now c.args.root.now m c.args.text c.args.meter.now in
     let told = rw c.in_default.is at c.in_ok-turn.ensures.told in
     told_end c.args.values.now c.args.root.now whole (g.F.Files.held c.args.files.now) (g.F.Files.held c.texts.files) c.texts.invariant.same
     c.texts.texts c.texts.progress c.turn.new.progress c.texts.meter c.turn.new.meter c.into_entries.result c.into_entries.ensures.configs c.into_entries.ensures.choices

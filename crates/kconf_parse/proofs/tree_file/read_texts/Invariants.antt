@@ -1,6 +1,5 @@
 use Rattle.std.proofs.Common.{◌≡◌, ◌≤◌, length}
-use Rattle.kconf_parse.specs.Entries.{at_start}
-use Rattle.kconf_parse.specs.OpenTexts.{root_alone, goes_on, weight}
+use Rattle.kconf_parse.specs.OpenTexts.{from_root, weight}
 use Rattle.kconf_parse.proofs.TreeLemmas.{CameTo}
 use Rattle.kconf_parse.proofs.tree_file.read_texts.Given as goal
 
@@ -10,7 +9,7 @@ invariant-texts g l = record {
   used : l.meter ≤ 536870912;
   later : l.fn.meter ≤ l.meter;
   same : g.F.Files.held l.files ≡ g.F.Files.held l.fn.files;
-  told : CameTo l.values l.root (g.F.Files.held l.fn.files) (λ m. goes_on l.values l.root m (root_alone l.fn.text) at_start l.fn.meter) l.texts l.progress l.meter;
+  told : CameTo l.values l.root (g.F.Files.held l.fn.files) (λ m. from_root l.values l.root m l.fn.text l.fn.meter) l.texts l.progress l.meter;
   faults : g.F.Files.faults l.fn.files ≤ g.F.Files.faults l.files;
   missing : g.F.Files.missing l.fn.files ≤ g.F.Files.missing l.files;
   long : g.F.Files.long l.fn.files ≤ g.F.Files.long l.files;

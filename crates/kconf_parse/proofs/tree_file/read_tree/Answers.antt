@@ -1,4 +1,4 @@
-use Rattle.std.proofs.Common.{◌≡◌, ◌∙◌, arith}
+use Rattle.std.proofs.Common.{◌∙◌}
 use Rattle.std.proofs.lemmas.Result.{err_from_is_err_and}
 use Rattle.kconf_parse.proofs.TreeLemmas.{told_nothing, told_no_root, told_root, since, tree_within_since}
 use Rattle.kconf_parse.proofs.tree_file.read_tree.Goals as goal

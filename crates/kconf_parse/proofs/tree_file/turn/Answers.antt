@@ -1,4 +1,4 @@
-use Rattle.std.proofs.Common.{◌≡◌, ◌<◌, ◌≤◌, length, sym, subst, arith}
+use Rattle.std.proofs.Common.{◌<◌, sym, subst, arith}
 use Rattle.std.proofs.lemmas.Result.{err_from_is_err_and}
 use Rattle.kconf_parse.specs.OpenTexts.{TextsLeft, weight}
 use Rattle.kconf_parse.proofs.TreeLemmas.{told_refused, told_entered, told_not_entered, told_no_room}
