@@ -19,6 +19,7 @@ mod gather;
 mod graph;
 #[cfg(test)]
 mod graph_tests;
+mod having_choices;
 mod limits;
 mod links;
 mod modules_symbol;
@@ -36,6 +37,7 @@ mod tree;
 mod types;
 
 pub use bad::TreeBad;
+pub use having_choices::have_choices;
 pub use place::Place;
 pub use shape::{Choice, Counts, Selector, Symbol};
 pub use tree::Tree;
