@@ -20,12 +20,14 @@ use Rattle.kconf_parse.specs.LogicalLines.{joined_count, joined_text}
 use Rattle.kconf_parse.specs.Texts.{TextOf, Sources, Behind, Reading, refused, all_read, asking, at_line, closed_by, lines_taken, line_read, stepped, read_lines, file_read, read_file, sourced, reading}
 use Rattle.kconf_parse.specs.TextReading.{TextLeft, LeadsTo, IsOfLine, ReadsOn, left_read, resumed}
 use Rattle.kconf_parse.specs.OpenTexts.{TextsLeft, Leaves, Opens, entered, ahead, goes_on, from_root, Turns}
+use Rattle.kconf_parse.proofs.WeightLemmas.{step_down}
 use Rattle.kconf_parse.specs.TreeFile.{amounts, FailsFrom, TreeFrom, TreeWithin, IsWithin}
 
 -- the bytes taken so far are those at which the reading may break off
 abbrev pub Holds : Reading → ℕ → Type 0
 Holds r used = Contains (amounts r) used
 
+-- so it is at a refusal
 refused_holds : (used : ℕ) (e : KconfBad) → Holds (refused used e) used
 refused_holds used e = (0, omega arith, refl)
 
@@ -68,10 +70,12 @@ fails_ahead front r now (bad.Depth file line what) h = h
 fails_ahead front r now (bad.TooLarge what count) h = h
 
 module _ (vars : List Var) (root : List ℕ) (held : Held) where
+  -- so it is at a `source` line
   sourced_holds : (depth : ℕ) (t : TextOf) (n : ℕ) (file : List ℕ) (p : Progress) (used : ℕ) (behind : Behind) → Holds (sourced vars root held depth t n file p used behind) used
   sourced_holds zero t n file p used behind = refused_holds used (bad.Depth t.name n limit.SourceDepth)
   sourced_holds (suc depth) t n file p used behind = (0, omega arith, refl)
 
+  -- so it is along what is left of texts
   resumed_holds : (ts : List TextLeft) (p : Progress) (used : ℕ) → Holds (resumed vars root held ts p used) used
   resumed_holds [] p used = (0, omega arith, refl)
   resumed_holds (t ∷ ts) p used = lines_hold vars root (sourced vars root held (64 - length ts)) t.text (sourced_holds (64 - length ts)) (resumed vars root held ts) (resumed_holds ts) t.left.number 0 t.left.lines p used
@@ -144,12 +148,14 @@ module _ (vars : List Var) (root : List ℕ) (held : Held) where
       both false true h k = absurd (true≢false k)
       both false false h k = refl
 
+  -- a file that is too long
   file_long : (sources : Sources) (name : List ℕ) (p : Progress) (used : ℕ) (behind : Behind) (content : Option (List ℕ)) (bytes : List ℕ)
       → content ≡ Some bytes → 16777216 < length bytes
       → file_read vars root held sources name p used behind content ≡ refused used (bad.TooLarge limit.FileBytes 16777217)
   file_long sources name p used behind content bytes is long =
       ap (file_read vars root held sources name p used behind) is ∙ cond-true _ _ _ (lt-ltb 16777216 (length bytes) long)
 
+  -- a file with which all are too long
   file_last : (sources : Sources) (name : List ℕ) (p : Progress) (used : ℕ) (behind : Behind) (content : Option (List ℕ)) (bytes : List ℕ)
       → content ≡ Some bytes → length bytes ≤ 16777216 → 536870912 < used + length bytes
       → file_read vars root held sources name p used behind content ≡ refused used (bad.TooLarge limit.AllBytes (used + length bytes))
@@ -184,9 +190,6 @@ module _ (vars : List Var) (root : List ℕ) (held : Held) where
       ap (asking name used) (file_taken sources name p used behind (get held name) h.0 h.1 taken.file (omega (arith, taken.taken, taken.all))
       ∙ (λ i. left_read vars root sources (sym h.2 i) p (sym taken.taken i) behind))
 
-  step_down : (n : ℕ) → n < 64 → 64 - n ≡ suc (64 - suc n)
-  step_down n h = omega arith
-
   -- a `source` line whose file is opened: the reading goes on in it
   pub turn_entered : (texts mid : TextsLeft) (p q : Progress) (used now line : ℕ) (file : List ℕ) (t : TextLeft)
       → mid.sourcing ≡ texts.sourcing → length mid.sourcing < 64
@@ -215,17 +218,20 @@ module _ (vars : List Var) (root : List ℕ) (held : Held) where
       → reading vars root held used ≡ asking root used (from_root vars root held t now)
   root_entered used now t opens = file_opened (sourced vars root held 64) root at_start used now all_read t opens
 
+  -- the root text is refused
   pub root_not_entered : (used now : ℕ) (e : KconfBad) → Opens root 0 (get held root) used now (Err e)
       → FailsFrom (reading vars root held used) now e
   root_not_entered used now e opens = file_refused (sourced vars root held 64) root 0 at_start used now all_read e opens
 
 -- and so where the files tell what they hold
 module _ (vars : List Var) (root : List ℕ) where
+  -- a line is refused
   pub told_refused : (o : Option Held) (texts new : TextsLeft) (p q : Progress) (used : ℕ) (e : KconfBad) → IsOfLine e
       → ReadsOn vars root texts.text p (Err e) new.text q → IfSome o (λ m. FailsFrom (goes_on vars root m texts p used) used e)
   told_refused None texts new p q used e own h = tt
   told_refused (Some m) texts new p q used e own h = turn_refused vars root m texts new p q used e own h
 
+  -- a sourced file is refused
   pub told_not_entered : (o : Option Held) (texts mid : TextsLeft) (p q : Progress) (used now line floor : ℕ) (file : List ℕ) (e : KconfBad)
       → mid.sourcing ≡ texts.sourcing → length mid.sourcing < 64 → floor ≡ length q.openers
       → LeadsTo vars root texts.text p (λ sources used behind. sources texts.text.text line file q used (λ r now. left_read vars root sources mid.text r now behind))
@@ -235,6 +241,7 @@ module _ (vars : List Var) (root : List ℕ) where
   told_not_entered (Some m) texts mid p q used now line floor file e same deep at leads opens =
       turn_not_entered vars root m texts mid p q used now line file e same deep leads (subst (λ n. Opens file n (get m file) used now (Err e)) at opens)
 
+  -- a sourced file is opened
   pub told_entered : (o : Option Held) (texts mid : TextsLeft) (p q : Progress) (used now line floor : ℕ) (file : List ℕ) (t : TextLeft)
       → mid.sourcing ≡ texts.sourcing → length mid.sourcing < 64 → floor ≡ length q.openers
       → LeadsTo vars root texts.text p (λ sources used behind. sources texts.text.text line file q used (λ r now. left_read vars root sources mid.text r now behind))
@@ -262,6 +269,7 @@ module _ (vars : List Var) (root : List ℕ) where
   abbrev pub IsAhead : Reading → Reading → Type 0
   IsAhead whole rest = (front : List (List ℕ × ℕ)) × (whole ≡ ahead front rest)
 
+  -- what the rest comes to, the whole comes to
   from_ahead : (whole rest : Reading) (now : ℕ) (r : Result Entries KconfBad) → IsAhead whole rest → TreeFrom rest now r → TreeFrom whole now r
   from_ahead whole rest now (Ok entries) h is = (ap (λ r. r.answer) h.1 ∙ is.0, ap (λ r. r.used) h.1 ∙ is.1)
   from_ahead whole rest now (Err e) h is = subst (λ r. FailsFrom r now e) (sym h.1) (fails_ahead h.0 rest now e is)
@@ -277,11 +285,13 @@ module _ (vars : List Var) (root : List ℕ) where
   abbrev pub CameTo : Option Held → (Held → Reading) → TextsLeft → Progress → ℕ → Type 0
   CameTo o whole texts p used = IfSome o (λ m. IsAhead (whole m) (goes_on vars root m texts p used))
 
+  -- before the first turn
   pub told_start : (o : Option Held) (texts : TextsLeft) (p : Progress) (used : ℕ) → CameTo o (λ m. goes_on vars root m texts p used) texts p used
   told_start None texts p used = tt
   told_start (Some m) texts p used = ([], refl)
 
   module _ (whole : Held → Reading) where
+    -- a turn, by one map of files
     told_next : {A : Type 0} (x : A) (o : Option Held) (texts new : TextsLeft) (p q : Progress) (used now : ℕ) → CameTo o whole texts p used
         → IfSome o (λ m. Turns vars root m texts p used (Ok (Some x)) new q now) → CameTo o whole new q now
     told_next x None texts new p q used now h turns = tt
@@ -315,18 +325,20 @@ module _ (vars : List Var) (root : List ℕ) where
         by None h turns = tt
         by (Some m) h turns = from_ahead (whole m) (goes_on vars root m texts p used) now (Err e) h turns
 
-  -- the root text is opened, or refused
+  -- behind the root text
   told_whole : (o : Option Held) (used mid now : ℕ) (t : TextLeft) (r : Result Entries KconfBad) → IfSome o (λ m. Opens root 0 (get m root) used mid (Ok t))
       → IfSome o (λ m. TreeFrom (from_root vars root m t mid) now r) → IfSome o (λ m. TreeFrom (reading vars root m used) now r)
   told_whole None used mid now t r opens is = tt
   told_whole (Some m) used mid now t r opens is =
       from_ahead (reading vars root m used) (from_root vars root m t mid) now r ((root, used) ∷ [], root_entered vars root m used mid t opens) is
 
+  -- the root text is refused
   no_root : (o : Option Held) (used now : ℕ) (e : KconfBad) → IfSome o (λ m. Opens root 0 (get m root) used now (Err e))
       → IfSome o (λ m. FailsFrom (reading vars root m used) now e)
   no_root None used now e opens = tt
   no_root (Some m) used now e opens = root_not_entered vars root m used now e opens
 
+  -- and so by an equal name
   pub told_no_root : (o : Option Held) (name : List ℕ) → name ≡ root → (used now : ℕ) (e : KconfBad) → IfSome o (λ m. Opens name 0 (get m name) used now (Err e))
       → IfSome o (λ m. FailsFrom (reading vars root m used) now e)
   told_no_root o name is used now e opens = no_root o used now e (subst (λ name. IfSome o (λ m. Opens name 0 (get m name) used now (Err e))) is opens)
@@ -356,6 +368,7 @@ within_since a b c (bad.TooLarge limit.AllBytes count) before h = (omega (arith,
 within_since a b c (bad.TooLarge what count) before h = absurd h
 within_since a b c e before h = omega (arith, h)
 
+-- and so has every answer
 pub tree_within_since : {A : Type 0} (a b c : ℕ) (r : Result A KconfBad) → a ≤ b → TreeWithin b c r → TreeWithin a c r
 tree_within_since a b c (Ok x) before h = (omega (arith, h.0), h.1)
 tree_within_since a b c (Err e) before h = within_since a b c e before h

@@ -36,7 +36,8 @@ outer_lighter b w c n k some base is =
     regroup : w * b ^ n ≡ w * b * b ^ k
     regroup = ap (λ m. w * b ^ m) is ∙ ap (λ x. w * x) (pow-suc b k ∙ mul_comm (b ^ k) b) ∙ sym (mul_assoc w b (b ^ k))
 
-step_down : (n : ℕ) → n < 64 → 64 - n ≡ suc (64 - suc n)
+-- one text more sources another
+pub step_down : (n : ℕ) → n < 64 → 64 - n ≡ suc (64 - suc n)
 step_down n h = omega arith
 
 -- behind a `source` line
@@ -64,6 +65,7 @@ pub ended_lighter : {A : Type 0} (old mid new : TextsLeft) (left : Option A) →
 ended_lighter old mid new None same ends within some = absurd (false≢true some)
 ended_lighter old mid new (Some x) same ends within some = left_lighter old mid new same ends within
 
+-- a byte more makes at most one line more
 onto_within : (b n : ℕ) (ls : List (List ℕ)) → length ls ≤ n → length (onto_first b ls) ≤ suc n
 onto_within b n [] h = omega arith
 onto_within b n (l ∷ ls) h = omega arith

@@ -18,9 +18,11 @@ pub record TextsLeft : Type 0 where
   pub text : TextLeft
   pub sourcing : List TextLeft
 
+-- the root text, which none sources
 abbrev pub root_alone : TextLeft → TextsLeft
 root_alone root = record { text = root; sourcing = [] }
 
+-- a text that the one before sources
 abbrev pub entered : TextLeft → TextsLeft → TextsLeft
 entered inner texts = record { text = inner; sourcing = texts.text ∷ texts.sourcing }
 
@@ -66,11 +68,12 @@ ahead front r = record r { asked = front ++ r.asked }
 abbrev pub most : ℕ
 most = 16777218
 
--- what is left of the texts weighs less behind each step
+-- the lines that are left of these texts, where one line of an outer text weighs more than all inner ones
 abbrev pub lines_weight : List TextLeft → ℕ
 lines_weight [] = 0
 lines_weight (t ∷ ts) = lines_weight ts * most + (length t.left.lines + 1)
 
+-- what is left of the open texts, which weighs less behind each turn
 abbrev pub weight : TextsLeft → ℕ
 weight texts = lines_weight (texts.text ∷ texts.sourcing) * most ^ (64 - length texts.sourcing)
 

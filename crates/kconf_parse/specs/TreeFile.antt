@@ -23,26 +23,29 @@ abbrev pub TreeFrom : Reading → ℕ → Result Entries KconfBad → Type 0
 TreeFrom r now (Ok entries) = (r.answer ≡ Ok entries) × (r.used ≡ now)
 TreeFrom r now (Err e) = FailsFrom r now e
 
--- the limits on bytes, also where the files don't tell what they hold
+-- what a refusal says of the limits on bytes and of the meter, also where the files don't tell what they hold
 abbrev pub IsWithin : ℕ → ℕ → KconfBad → Type 0
 IsWithin before now (bad.TooLarge limit.FileBytes count) = (before ≤ now) × (count ≡ 16777217)
 IsWithin before now (bad.TooLarge limit.AllBytes count) = (before ≤ now) × (536870912 < count) × (count ≤ now + 16777216)
 IsWithin before now (bad.TooLarge what count) = ⊥
 IsWithin before now e = before ≤ now
 
+-- what an answer says of them
 abbrev pub TreeWithin : {A : Type 0} → ℕ → ℕ → Result A KconfBad → Type 0
 TreeWithin before now (Ok x) = (before ≤ now) × (now ≤ 536870912)
 TreeWithin before now (Err e) = IsWithin before now e
 
--- which answer each cause has
+-- a file was not there
 abbrev pub IsMissing : {A : Type 0} → Result A KconfBad → Type 0
 IsMissing (Err (bad.Missing file)) = Unit {0}
 IsMissing result = ⊥
 
+-- a file could not be read
 abbrev pub IsReadFault : {A : Type 0} → Result A KconfBad → Type 0
 IsReadFault (Err (bad.ReadFault file)) = Unit {0}
 IsReadFault result = ⊥
 
+-- a file is longer than one may be
 abbrev pub IsTooLong : {A : Type 0} → Result A KconfBad → Type 0
 IsTooLong (Err (bad.TooLarge limit.FileBytes count)) = Unit {0}
 IsTooLong result = ⊥

@@ -20,8 +20,8 @@ const MOST_SOURCING: usize = 64;
 
 /// Reads the root text, and each sourced text in the place of its `source` line.
 ///
-/// Paths are read beside the root text's name. The names in `vars` are distinct, and no value there holds a newline or
-/// a byte past 127.
+/// Paths are read beside the root text's name. The names in `vars` are distinct (of two with one name the first counts),
+/// and no value there holds a newline or a byte past 127.
 ///
 /// Errors: of all bad lines the first in reading order is named, and an opener without its end word at the end of its
 /// text. `Missing` and `ReadFault` come where a text was not there or could not be read, `TooLarge` where it or all
