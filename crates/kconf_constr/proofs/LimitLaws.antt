@@ -11,7 +11,8 @@ use Rattle.kconf_parse.specs.declared.expr.Expr.{Expr}
 use Rattle.kconf_parse.specs.declared.entries.DefaultOf.{DefaultOf}
 use Rattle.kconf_tree.specs.declared.shape.Selector.{Selector}
 use Rattle.kconf_tree.specs.Shape.{symbol_at, counts_as, selectors_of}
-use Rattle.kconf_tree.specs.Value.{Configuration, Condition, Value, value_in, own_value, least, greatest}
+use Rattle.kconf_tree.specs.declared.place.Place.TheVariants.{Condition, Value}
+use Rattle.kconf_tree.specs.Value.{Configuration, value_in, own_value, least, greatest}
 use Rattle.kconf_tree.specs.Properties.{visibility_of, reverse_of, default_of, first_default, selected_by}
 use Rattle.kconf_tree.proofs.Small.{on_three, at_three}
 use Rattle.kconf_constr.specs.declared.half.Half.{Half}

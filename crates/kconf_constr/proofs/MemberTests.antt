@@ -121,12 +121,18 @@ module _ (p w : ℕ → Bool) where
 
   -- ---- counted
 
+  never : (n : ℕ) → (suc n == 0) ≡ false
+  never n = grind (arith, nat_tests)
+
+  less : (n : ℕ) → (suc n == 1) ≡ (n == 0)
+  less n = grind (arith, nat_tests)
+
   none_is : (js : List ℕ) → not (list_any p js) ≡ (length (filter p js) == 0)
   none_is [] = refl
   none_is (j ∷ js) = by (p j) (none_is js)
     where
       by : (b : Bool) → not (list_any p js) ≡ (length (filter p js) == 0) → not (b || list_any p js) ≡ (length (cond b (j ∷ filter p js) (filter p js)) == 0)
-      by true h = refl
+      by true h = sym (never (length (filter p js)))
       by false h = h
 
   one_is : (js : List ℕ) → exactly_one p js ≡ (length (filter p js) == 1)
@@ -134,7 +140,7 @@ module _ (p w : ℕ → Bool) where
   one_is (j ∷ js) = by (p j) (one_is js)
     where
       by : (b : Bool) → exactly_one p js ≡ (length (filter p js) == 1) → cond b (not (list_any p js)) (exactly_one p js) ≡ (length (cond b (j ∷ filter p js) (filter p js)) == 1)
-      by true h = none_is js
+      by true h = none_is js ∙ sym (less (length (filter p js)))
       by false h = h
 
 -- ---- the whole, by trying all truths

@@ -1,14 +1,15 @@
 -- What a binary search in names that rise says of the number of a name.
-use Rattle.std.proofs.Common.{◌≡◌, ℕ, ◌<◌, ◌≤◌, Bool, true, false, List, length, get_or, refl, sym, ap, ◌∙◌, subst, cond, Option, Some, None, Result, Ok, Err, arith, inl, inr, position, nat_lt}
+use Rattle.std.proofs.Common.{◌≡◌, ℕ, ◌+◌, ◌<◌, ◌≤◌, Bool, true, false, List, [], length, get_or, refl, sym, ap, ◌∙◌, subst, cond, Option, Some, None, Result, Ok, Err, arith, inl, inr, position, nat_lt}
 use Rattle.std.proofs.lemmas.Bool.{cases_lt, lt-ltb, le-ltb, false≢true}
 use Rattle.std.proofs.lemmas.List.Sums.{position_or_len_is}
 use Rattle.std.proofs.lemmas.Map.Keys.{Less-from_sorted}
 use Rattle.std.specs.List.{position_or_len}
-use Rattle.std.specs.List.Sorted.{IsNonDecreasingBy, IsSearchInRange, IsBinarySearchResult}
-use Rattle.std.specs.Ordering.{is_eq, ordering_index}
+use Rattle.std.specs.List.Sorted.{IsNonDecreasingBy, IsPartitionPoint, IsSorted}
+use Rattle.std.specs.Ordering.{is_eq, is_lt, ordering_index, ordering_reverse}
+use Rattle.std.proofs.lemmas.List.Sorted.{searchable_from_sorted}
 use Rattle.std.specs.declared.cmp.Ordering.{Ordering}
 use Rattle.std.specs.declared.cmp.Ordering.TheVariants.{Less, Equal, Greater}
-use Rattle.ut_logic.specs.Text.{text_eq, text_eq-exact, text_cmp, text_ties}
+use Rattle.ut_logic.specs.Text.{text_eq, text_eq-exact, text_cmp, text_ties, text_total}
 use Rattle.kconf_tree.proofs.Small.{is_off}
 use Rattle.kconf_constr.specs.Scope.{IsRising, number_among}
 
@@ -45,3 +46,12 @@ not_found names name i d low high = sym (position_none (λ n. text_eq n name) na
   | inl k ↦ less_is_not (get_or names j d) name (low j k)
   | inr k ↦ more_is_not (get_or names j d) name (high j k h)
 ]))
+
+-- names that rise are in order
+rising_sorted : (names : List (List ℕ)) → IsRising names → IsSorted text_cmp names
+rising_sorted names up k d low high = ap is_lt (text_total.antisymm (get_or names (k + 1) d) (get_or names k d) ∙ ap ordering_reverse (Less-from_sorted text_cmp names k (k + 1) d up (omega arith) high))
+
+-- what the search answers is the number
+pub missed : (names : List (List ℕ)) (name : List ℕ) (i : ℕ) → IsRising names → (IsNonDecreasingBy (λ y. ordering_index (text_cmp y name)) names → IsPartitionPoint (λ y. text_cmp y name ≡ Less) (λ y. text_cmp y name ≡ Greater) names i) → None ≡ number_among names name
+missed names name i up point = let at = point (searchable_from_sorted text_total (λ y. y) names name (rising_sorted names up)) in
+    not_found names name i [] (λ k low. at.0 k [] (omega arith) low) (λ k low high. at.1 k [] low high)

@@ -23,7 +23,9 @@ use Rattle.kconf_parse.specs.declared.expr.Expr.TheFolds.{fold-roll-Expr, map-Ex
 use Rattle.kconf_tree.specs.declared.shape.Counts.{Counts}
 use Rattle.kconf_tree.specs.declared.shape.Counts.TheVariants as counts
 use Rattle.kconf_tree.specs.Shape.{Shape, number_of, outer_at, counts_as, is_the}
-use Rattle.kconf_tree.specs.Value.{Place, Condition, Value, Configuration, value_in, value_step, named, side_value, const_value, outer_value, compares_trits, comparison_text, least, greatest, has_modules, stands_for}
+use Rattle.kconf_tree.specs.declared.place.Place.{Place}
+use Rattle.kconf_tree.specs.declared.place.Place.TheVariants.{Condition, Value}
+use Rattle.kconf_tree.specs.Value.{Configuration, value_in, value_step, named, side_value, const_value, outer_value, compares_trits, comparison_text, least, greatest, has_modules, stands_for}
 use Rattle.kconf_tree.specs.Value as tree
 use Rattle.kconf_constr.specs.declared.half.Half.{Half}
 use Rattle.kconf_constr.specs.declared.half.Half.TheVariants.{NotN, IsY}
@@ -179,6 +181,11 @@ stands_compared v sign.MoreSame a b m n s t = differs v a b m n s t
 
 -- ---- every expression
 
+-- the same as has_modules, of the number alone
+abbrev has_modules_as : Configuration → Option ℕ → Bool
+has_modules_as c None = false
+has_modules_as c (Some k) = not (c.value k == 0)
+
 module _ (s : Scope) (v : Item → Bool) where
   abbrev c : Configuration
   c = configuration_of s v
@@ -208,12 +215,18 @@ module _ (s : Scope) (v : Item → Bool) where
       by true = refl
       by false = refl
 
+  has_none : s.shape.modules ≡ None → has_modules s.shape c ≡ false
+  has_none e = ap (has_modules_as c) e
+
+  has_some : (k : ℕ) → s.shape.modules ≡ Some k → has_modules s.shape c ≡ not (c.value k == 0)
+  has_some k e = ap (has_modules_as c) e
+
   pub modules_truth : truth v (modules_formula s.shape.modules) ≡ has_modules s.shape c
   modules_truth = by s.shape.modules refl
     where
       by : (o : Option ℕ) → s.shape.modules ≡ o → truth v (modules_formula s.shape.modules) ≡ has_modules s.shape c
-      by None e = rw e (truth-No v)
-      by (Some k) e = rw e (truth-Is v (SymY k) ∙ sym (bit_of_modules k e))
+      by None e = ap (λ m. truth v (modules_formula m)) e ∙ (truth-No v ∙ sym (has_none e))
+      by (Some k) e = ap (λ m. truth v (modules_formula m)) e ∙ (truth-Is v (SymY k) ∙ (sym (bit_of_modules k e) ∙ sym (has_some k e)))
 
   bare_case : (b : Bool) → truth v (modules_formula s.shape.modules) ≡ b → Stands v (record { not_n = modules_formula s.shape.modules; is_y = No }) (cond b 1 0)
   bare_case true h = record { not_n = h; is_y = truth-No v; small = omega arith }
@@ -258,3 +271,11 @@ module _ (s : Scope) (v : Item → Bool) where
 
     pub expr_right : (e : Expr) → Right e
     expr_right = ind-Expr Right (λ x y is. rolled x (subst StepRight is (step y)))
+
+-- ---- of formulas that are those of a condition
+
+pub not_n_of : (s t : Scope) (e : Expr) (f : Formula) → f ≡ (halves s Condition e).not_n → s ≡ t → (v : Item → Bool) → truth v f ≡ not (value_in t.shape (configuration_of t v) Condition e == 0)
+not_n_of s t e f h g v = ap (truth v) (h ∙ ap (λ (r : Scope). (halves r Condition e).not_n) g) ∙ (expr_right t v Condition e).not_n
+
+pub is_y_of : (s t : Scope) (e : Expr) (f : Formula) → f ≡ (halves s Condition e).is_y → s ≡ t → (v : Item → Bool) → truth v f ≡ (value_in t.shape (configuration_of t v) Condition e == 2)
+is_y_of s t e f h g v = ap (truth v) (h ∙ ap (λ (r : Scope). (halves r Condition e).is_y) g) ∙ (expr_right t v Condition e).is_y

@@ -19,16 +19,16 @@ choice_seen s i = (prompts_halves s (choice_at s.shape i).prompts).not_n
 
 -- mode y where the choice is visible alone, and there it is, unless it is optional
 abbrev pub mode_holds : Bool → Formula → Formula → List Formula
-mode_holds optional seen mode = any_of (not_of mode ∷ seen ∷ []) ∷ (if optional then [] else any_of (not_of seen ∷ mode ∷ []) ∷ [])
+mode_holds optional visible mode = any_of (not_of mode ∷ visible ∷ []) ∷ (if optional then [] else any_of (not_of visible ∷ mode ∷ []) ∷ [])
 
 -- a member is y in mode y alone, and where it is visible
 abbrev pub member_holds : (ℕ → Formula) → Formula → ℕ → List Formula
-member_holds seen mode j = any_of (not_of (Is (SymY j)) ∷ mode ∷ []) ∷ any_of (not_of (Is (SymY j)) ∷ seen j ∷ []) ∷ []
+member_holds visible mode j = any_of (not_of (Is (SymY j)) ∷ mode ∷ []) ∷ any_of (not_of (Is (SymY j)) ∷ visible j ∷ []) ∷ []
 
 -- each of these
 abbrev pub members_hold : (ℕ → Formula) → Formula → List ℕ → List Formula
-members_hold seen mode [] = []
-members_hold seen mode (j ∷ js) = member_holds seen mode j ++ members_hold seen mode js
+members_hold visible mode [] = []
+members_hold visible mode (j ∷ js) = member_holds visible mode j ++ members_hold visible mode js
 
 -- one of the two isn't y
 abbrev pub not_both : ℕ → ℕ → Formula
@@ -45,7 +45,7 @@ are_y js = map (λ j. Is (SymY j)) js
 
 -- in mode y, where a member is visible, some member is y
 abbrev pub some_holds : (ℕ → Formula) → Formula → List ℕ → ℕ → Formula
-some_holds seen mode members j = any_of (not_of mode ∷ not_of (seen j) ∷ are_y members)
+some_holds visible mode members j = any_of (not_of mode ∷ not_of (visible j) ∷ are_y members)
 
 -- of a choice
 abbrev pub choice_holds : Scope → ℕ → List Formula

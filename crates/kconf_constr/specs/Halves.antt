@@ -17,7 +17,9 @@ use Rattle.kconf_parse.specs.declared.expr.Expr.TheFolds.{fold-Expr}
 use Rattle.kconf_tree.specs.declared.shape.Counts.{Counts}
 use Rattle.kconf_tree.specs.declared.shape.Counts.TheVariants as counts
 use Rattle.kconf_tree.specs.Shape.{counts_as, number_of, outer_at}
-use Rattle.kconf_tree.specs.Value.{Place, Condition, Value, compares_trits, comparison_text}
+use Rattle.kconf_tree.specs.declared.place.Place.{Place}
+use Rattle.kconf_tree.specs.declared.place.Place.TheVariants.{Condition, Value}
+use Rattle.kconf_tree.specs.Value.{compares_trits, comparison_text}
 use Rattle.kconf_constr.specs.declared.half.Half.{Half}
 use Rattle.kconf_constr.specs.declared.half.Half.TheVariants.{NotN, IsY}
 use Rattle.kconf_constr.specs.Scope.{Scope, number_among}

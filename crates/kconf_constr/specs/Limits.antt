@@ -7,7 +7,7 @@ use Rattle.kconf_parse.specs.declared.expr.Expr.{Expr}
 use Rattle.kconf_parse.specs.declared.entries.DefaultOf.{DefaultOf}
 use Rattle.kconf_tree.specs.declared.shape.Selector.{Selector}
 use Rattle.kconf_tree.specs.Shape.{symbol_at, selectors_of}
-use Rattle.kconf_tree.specs.Value.{Condition, Value}
+use Rattle.kconf_tree.specs.declared.place.Place.TheVariants.{Condition, Value}
 use Rattle.kconf_constr.specs.declared.half.Half.{Half}
 use Rattle.kconf_constr.specs.declared.half.Half.TheVariants.{NotN, IsY}
 use Rattle.kconf_constr.specs.Scope.{Scope}

@@ -14,6 +14,10 @@ pub record Scope : Type 0 where
 abbrev pub whole : Shape → Scope
 whole t = record { shape = t; free = [] }
 
+-- where these may be y
+abbrev pub with_free : Shape → List (List ℕ) → Scope
+with_free t names = record { shape = t; free = names }
+
 -- strictly rising by their bytes
 abbrev pub IsRising : List (List ℕ) → Type 0
 IsRising names = IsStrictlySortedBy text_cmp names

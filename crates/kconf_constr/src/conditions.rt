@@ -3,8 +3,9 @@
 ghost use Rattle.std.specs.Prelude.{◌≡◌, ◌==◌, Bool, not, IfOk};
 ghost use Rattle.ut_logic.specs.declared.item.Item as one;
 ghost use Rattle.ut_logic.specs.Truth.{truth};
-ghost use Rattle.kconf_tree.specs.Value.{Condition, value_of};
-ghost use Rattle.kconf_constr.specs.Scope.{IsRising, whole};
+ghost use Rattle.kconf_tree.specs.declared.place.Place.TheVariants.{Condition};
+ghost use Rattle.kconf_tree.specs.Value.{value_of};
+ghost use Rattle.kconf_constr.specs.Scope.{IsRising, whole, with_free};
 ghost use Rattle.kconf_constr.specs.Halves.{halves};
 ghost use Rattle.kconf_constr.specs.Stands.{configuration_of};
 
@@ -40,8 +41,8 @@ pub fn free_not_n(
     e: &Expr,
 ) -> Result<Formula, AllocError>
     requires { IsRising undeclared.now }
-    ensures formula { IfOk result (λ f. f ≡ (halves (record { shape = tree.now.shape; free = undeclared.now }) Condition e.now).not_n) }
-    ensures means { IfOk result (λ f. (v : one.Item → Bool) → truth v f ≡ not (value_of tree.now.shape (configuration_of (record { shape = tree.now.shape; free = undeclared.now }) v) e.now == 0)) }
+    ensures formula { IfOk result (λ f. f ≡ (halves (with_free tree.now.shape undeclared.now) Condition e.now).not_n) }
+    ensures means { IfOk result (λ f. (v : one.Item → Bool) → truth v f ≡ not (value_of tree.now.shape (configuration_of (with_free tree.now.shape undeclared.now) v) e.now == 0)) }
 {
     Scope::with_free(tree, undeclared).half_in(alloc, Place::Condition, e, Half::NotN)
 }

@@ -4,7 +4,7 @@ ghost use Rattle.ut_logic.specs.declared.item.Item as one;
 ghost use Rattle.ut_logic.specs.declared.node.Node.TheVariants as node;
 ghost use Rattle.ut_logic.specs.Facts.{MeetsAll};
 ghost use Rattle.kconf_tree.specs.Valid.{IsValid, KeepsRules};
-ghost use Rattle.kconf_constr.specs.Scope.{IsRising, whole};
+ghost use Rattle.kconf_constr.specs.Scope.{IsRising, whole, with_free};
 ghost use Rattle.kconf_constr.specs.FactsOf as spec;
 ghost use Rattle.kconf_constr.specs.Stands.{configuration_of};
 ghost use Rattle.kconf_constr.specs.Meaning.{HasBoolMembers, HaveOneValue, SaysRight};
@@ -137,9 +137,9 @@ pub fn constraints(alloc: Global, tree: &Tree) -> Result<Facts, AllocError>
 /// list is that of its item. The only error is want of memory.
 pub fn free_constraints(alloc: Global, tree: &Tree, undeclared: &[Text]) -> Result<Facts, AllocError>
     requires { IsRising undeclared.now }
-    ensures facts { IfOk result (λ f. f.list ≡ spec.facts_of (record { shape = tree.now.shape; free = undeclared.now })) }
-    ensures means { HasBoolMembers tree.now.shape → IfOk result (λ f. All (SaysRight (record { shape = tree.now.shape; free = undeclared.now })) f.list) }
-    ensures valid { HasBoolMembers tree.now.shape → IfOk result (λ f. (v : one.Item → Bool) → MeetsAll v f.list ↔ (HaveOneValue tree.now.shape v × KeepsRules tree.now.shape (configuration_of (record { shape = tree.now.shape; free = undeclared.now }) v))) }
+    ensures facts { IfOk result (λ f. f.list ≡ spec.facts_of (with_free tree.now.shape undeclared.now)) }
+    ensures means { HasBoolMembers tree.now.shape → IfOk result (λ f. All (SaysRight (with_free tree.now.shape undeclared.now)) f.list) }
+    ensures valid { HasBoolMembers tree.now.shape → IfOk result (λ f. (v : one.Item → Bool) → MeetsAll v f.list ↔ (HaveOneValue tree.now.shape v × KeepsRules tree.now.shape (configuration_of (with_free tree.now.shape undeclared.now) v))) }
 {
     Scope::with_free(tree, undeclared).facts(alloc)
 }

@@ -37,7 +37,7 @@ impl<'a> Scope<'a> {
     /// Where these undeclared names may be y.
     pub fn with_free(tree: &'a Tree, free: &'a [Text]) -> Scope<'a>
         requires { spec.IsRising free.now }
-        ensures { result ≡ record { shape = tree.now.shape; free = free.now } }
+        ensures { result ≡ spec.with_free tree.now.shape free.now }
     {
         Scope { tree, free }
     }

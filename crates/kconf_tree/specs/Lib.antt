@@ -4,7 +4,6 @@ pub mod Gathered
 pub mod Value
 pub mod Properties
 pub mod Valid
-pub mod Right
 pub mod References
 pub mod Graph
 pub mod Orders

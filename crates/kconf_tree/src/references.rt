@@ -38,7 +38,7 @@ impl Tree {
     }
 
     /// Whether a comparison compares two of the three values.
-    pub fn compares_trits(&self, left: &Side, sign: Sign, right: &Side) -> bool
+    fn compares_trits(&self, left: &Side, sign: Sign, right: &Side) -> bool
         ensures { result ≡ value.compares_trits self.now.shape left.now sign right.now }
     {
         matches!(sign, Sign::Same | Sign::Differ) && self.has_trit(left) && self.has_trit(right)

@@ -5,7 +5,6 @@ ghost use Rattle.kconf_tree.specs.Apart.{AreApart, names_in};
 
 mod building;
 mod gathering;
-mod looking_up;
 mod ordering;
 
 use crate::shape::{Choice, Symbol};
