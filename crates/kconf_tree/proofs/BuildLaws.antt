@@ -1,7 +1,7 @@
 -- What the limits and the search for an order say of entries.
 use Rattle.std.proofs.Common.{◌≡◌, ℕ, Option, None, List, length, map, ap, sym, ◌∙◌}
 use Rattle.std.specs.Option.{option_or}
-use Rattle.ut_base.specs.declared.limits.Limit.TheVariants.{Symbols, Members, Defaults}
+use Rattle.ut_base.specs.declared.limits.Limit.TheVariants.{Symbols}
 use Rattle.kconf_parse.specs.declared.entries.Entries.{Entries}
 use Rattle.kconf_tree.specs.declared.shape.Symbol.{Symbol}
 use Rattle.kconf_tree.specs.declared.shape.Choice.{Choice}
@@ -10,14 +10,10 @@ use Rattle.kconf_tree.specs.declared.bad.TreeBad.{TreeBad}
 use Rattle.kconf_tree.specs.declared.bad.TreeBad.TheVariants.{TooMany, Recursive, Oom}
 use Rattle.kconf_tree.specs.Gathered.{gathered}
 use Rattle.kconf_tree.specs.Types.{types_of}
-use Rattle.kconf_tree.specs.Limits.{past, first_past, first_passed}
+use Rattle.kconf_tree.specs.Limits.{past, each_past, first_passed}
 use Rattle.kconf_tree.specs.Orders.{IsRecursive}
 use Rattle.kconf_tree.specs.Built.{IsRefused}
 use Rattle.kconf_tree.proofs.TreeLaws.{length-symbols}
-
--- a choice or a symbol that passes its limit
-abbrev pub each_past : List Choice → List Symbol → Option Passed
-each_past cs ss = option_or (first_past Members 1024 (map (λ (c : Choice). length c.members) cs)) (first_past Defaults 1024 (map (λ (s : Symbol). length s.defaults) ss))
 
 -- where there aren't too many symbols
 pub passed_later : (e : Entries) (o : Option Passed) (n : ℕ) → o ≡ past Symbols 65536 n → o ≡ None → n ≡ length (types_of e.configs) → first_passed (gathered e) ≡ each_past (gathered e).choices (gathered e).symbols

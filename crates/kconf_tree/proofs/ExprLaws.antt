@@ -10,6 +10,7 @@ use Rattle.kconf_tree.specs.Shape.{Shape}
 use Rattle.kconf_tree.specs.Gathered.{outers_step, outers_in}
 use Rattle.kconf_tree.specs.Value.{Place}
 use Rattle.kconf_tree.specs.References.{numbers_step, numbers_in}
+use Rattle.kconf_tree.specs.Undeclared.{undeclared_step, undeclared_in}
 
 pub joined_map : {A B : Type 0} (f : A → List B) (xs : List A) → flat_map (λ y. y) (map f xs) ≡ flat_map f xs
 joined_map f [] = refl
@@ -29,6 +30,15 @@ outers_and t es = sym (outers_out t (And es) ∙ (ap (λ (x : Expr-F Expr). oute
 
 pub outers_or : (t : Shape) (es : List Expr) → flat_map (outers_in t) es ≡ outers_in t (Or es)
 outers_or t es = sym (outers_out t (Or es) ∙ (ap (λ (x : Expr-F Expr). outers_step t (map-Expr Expr (List (List ℕ)) (outers_in t) x)) (out_or es) ∙ joined_map (outers_in t) es))
+
+undeclared_out : (t : Shape) (e : Expr) → undeclared_in t e ≡ undeclared_step t (map-Expr Expr (List (List ℕ)) (undeclared_in t) (out-Expr e))
+undeclared_out t e = fold_out-Expr (List (List ℕ)) (undeclared_step t) e
+
+pub undeclared_and : (t : Shape) (es : List Expr) → flat_map (undeclared_in t) es ≡ undeclared_in t (And es)
+undeclared_and t es = sym (undeclared_out t (And es) ∙ (ap (λ (x : Expr-F Expr). undeclared_step t (map-Expr Expr (List (List ℕ)) (undeclared_in t) x)) (out_and es) ∙ joined_map (undeclared_in t) es))
+
+pub undeclared_or : (t : Shape) (es : List Expr) → flat_map (undeclared_in t) es ≡ undeclared_in t (Or es)
+undeclared_or t es = sym (undeclared_out t (Or es) ∙ (ap (λ (x : Expr-F Expr). undeclared_step t (map-Expr Expr (List (List ℕ)) (undeclared_in t) x)) (out_or es) ∙ joined_map (undeclared_in t) es))
 
 numbers_out : (t : Shape) (p : Place) (e : Expr) → numbers_in t p e ≡ numbers_step t p (map-Expr Expr (List ℕ) (numbers_in t p) (out-Expr e))
 numbers_out t p e = fold_out-Expr (List ℕ) (numbers_step t p) e

@@ -21,3 +21,8 @@ pub mod ValueLaws
 pub mod RightLaws
 pub mod OrderLaws
 pub mod GraphOrders
+mod MadeLaws
+mod OrderNodes
+mod Words
+mod FeedLaws
+mod Rising

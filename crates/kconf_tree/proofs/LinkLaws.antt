@@ -2,10 +2,9 @@
 use Rattle.std.proofs.Common.{◌≡◌, ℕ, zero, suc, ◌<◌, Bool, true, false, ◌||◌, cond, eqb, ltb, Option, None, Some, List, [], ◌∷◌, ◌++◌, length, get_or, replicate, refl, ap, sym, subst, ◌∙◌, arith, append_assoc, get_or-set_same, get_or-set_other}
 use Rattle.std.proofs.lemmas.Bool.{false≢true, eqb-true, eqb-false, eq-eqb, lt-ltb}
 use Rattle.std.proofs.lemmas.List.{append-nil, length-set, length-replicate, get_or-replicate}
-use Rattle.std.proofs.lemmas.List.Concat.{flat_map-append}
 use Rattle.std.proofs.lemmas.List.Quantifiers.{position-Some}
 use Rattle.std.proofs.lemmas.List.Sums.{position_or_len_is}
-use Rattle.std.specs.List.{list_any, position_or_len, flat_map}
+use Rattle.std.specs.List.{list_any, position_or_len}
 use Rattle.ut_logic.specs.Text.{text_eq, text_eq-exact, text_equiv}
 use Rattle.kconf_parse.specs.declared.entries.SelectOf.{SelectOf}
 use Rattle.kconf_tree.specs.declared.shape.Symbol.{Symbol}
@@ -13,11 +12,9 @@ use Rattle.kconf_tree.specs.declared.shape.Selector.{Selector}
 use Rattle.kconf_tree.specs.declared.links.Link.{Link}
 use Rattle.kconf_tree.specs.declared.links.Link.TheVariants.{Selects, Implies}
 use Rattle.kconf_tree.specs.Shape.{Shape, no_symbol, symbol_at, number_of, is_the, selects_at, selects_from, implies_from}
-use Rattle.kconf_tree.specs.Value.{Condition}
-use Rattle.kconf_tree.specs.References.{numbers_in, of_selector}
 use Rattle.kconf_tree.specs.Apart.{AreApart}
 use Rattle.kconf_tree.specs.Apart.{names_in}
-use Rattle.kconf_tree.specs.Linking.{list_of, linkers_of, with_more, linked_one, linked_each, linked_all}
+use Rattle.kconf_tree.specs.Linking.{list_of, linkers_of, with_one, linked_one, linked_each, linked_all}
 
 -- ---- the number of a target
 
@@ -67,46 +64,45 @@ module _ (t : Shape) (apart : AreApart text_eq (names_in t.symbols)) where
 
   -- ---- the lists
 
-  length-more : (rows : List (List ℕ)) (o : Option ℕ) (more : List ℕ) → length (with_more rows o more) ≡ length rows
-  length-more rows None more = refl
-  length-more rows (Some m) more = length-set rows m (get_or rows m [] ++ more)
+  length-one : (rows : List (List Selector)) (o : Option ℕ) (s : Selector) → length (with_one rows o s) ≡ length rows
+  length-one rows None s = refl
+  length-one rows (Some m) s = length-set rows m (get_or rows m [] ++ s ∷ [])
 
-  more_at : (rows : List (List ℕ)) (o : Option ℕ) (more : List ℕ) (k : ℕ) → k < length rows → get_or (with_more rows o more) k [] ≡ get_or rows k [] ++ cond (is_the o k) more []
-  more_at rows None more k l = sym (append-nil (get_or rows k []))
-  more_at rows (Some m) more k l = by (eqb m k) refl
+  one_at : (rows : List (List Selector)) (o : Option ℕ) (s : Selector) (k : ℕ) → k < length rows → get_or (with_one rows o s) k [] ≡ get_or rows k [] ++ cond (is_the o k) (s ∷ []) []
+  one_at rows None s k l = sym (append-nil (get_or rows k []))
+  one_at rows (Some m) s k l = by (eqb m k) refl
     where
-      by : (b : Bool) → eqb m k ≡ b → get_or (with_more rows (Some m) more) k [] ≡ get_or rows k [] ++ cond b more []
-      by true e = ap (λ n. get_or (with_more rows (Some n) more) k []) (eqb-true m k e) ∙ get_or-set_same rows k (get_or rows k [] ++ more) [] l
-      by false e = get_or-set_other rows m k (get_or rows m [] ++ more) [] (λ q. eqb-false m k e (sym q)) ∙ sym (append-nil (get_or rows k []))
+      by : (b : Bool) → eqb m k ≡ b → get_or (with_one rows (Some m) s) k [] ≡ get_or rows k [] ++ cond b (s ∷ []) []
+      by true e = ap (λ n. get_or (with_one rows (Some n) s) k []) (eqb-true m k e) ∙ get_or-set_same rows k (get_or rows k [] ++ s ∷ []) [] l
+      by false e = get_or-set_other rows m k (get_or rows m [] ++ s ∷ []) [] (λ q. eqb-false m k e (sym q)) ∙ sym (append-nil (get_or rows k []))
 
-  pub length-each : (j : ℕ) (rows : List (List ℕ)) (ss : List SelectOf) → length (linked_each t j rows ss) ≡ length rows
+  pub length-each : (j : ℕ) (rows : List (List Selector)) (ss : List SelectOf) → length (linked_each t j rows ss) ≡ length rows
   length-each j rows [] = refl
-  length-each j rows (s ∷ ss) = length-each j (linked_one t j rows s) ss ∙ length-more rows (number_of t s.target) (j ∷ numbers_in t Condition s.cond)
+  length-each j rows (s ∷ ss) = length-each j (linked_one t j rows s) ss ∙ length-one rows (number_of t s.target) (record { by = j; cond = s.cond })
 
-  each_at : (j : ℕ) (rows : List (List ℕ)) (ss : List SelectOf) (k : ℕ) → k < length rows → k < length t.symbols
-      → get_or (linked_each t j rows ss) k [] ≡ get_or rows k [] ++ flat_map (of_selector t) (selects_at (symbol_at t k).name j ss)
+  each_at : (j : ℕ) (rows : List (List Selector)) (ss : List SelectOf) (k : ℕ) → k < length rows → k < length t.symbols
+      → get_or (linked_each t j rows ss) k [] ≡ get_or rows k [] ++ selects_at (symbol_at t k).name j ss
   each_at j rows [] k l m = sym (append-nil (get_or rows k []))
-  each_at j rows (s ∷ ss) k l m = each_at j (linked_one t j rows s) ss k (subst (λ n. k < n) (sym (length-more rows (number_of t s.target) (j ∷ numbers_in t Condition s.cond))) l) m
-      ∙ (ap (λ xs. xs ++ flat_map (of_selector t) (selects_at (symbol_at t k).name j ss)) (more_at rows (number_of t s.target) (j ∷ numbers_in t Condition s.cond) k l ∙ ap (λ b. get_or rows k [] ++ cond b (j ∷ numbers_in t Condition s.cond) []) (target_is s.target k m))
+  each_at j rows (s ∷ ss) k l m = each_at j (linked_one t j rows s) ss k (subst (λ n. k < n) (sym (length-one rows (number_of t s.target) (record { by = j; cond = s.cond }))) l) m
+      ∙ (ap (λ xs. xs ++ selects_at (symbol_at t k).name j ss) (one_at rows (number_of t s.target) (record { by = j; cond = s.cond }) k l ∙ ap (λ b. get_or rows k [] ++ cond b (record { by = j; cond = s.cond } ∷ []) []) (target_is s.target k m))
       ∙ by (text_eq s.target (symbol_at t k).name))
     where
-      by : (b : Bool) → get_or rows k [] ++ cond b (j ∷ numbers_in t Condition s.cond) [] ++ flat_map (of_selector t) (selects_at (symbol_at t k).name j ss)
-          ≡ get_or rows k [] ++ flat_map (of_selector t) (cond b (record { by = j; cond = s.cond } ∷ selects_at (symbol_at t k).name j ss) (selects_at (symbol_at t k).name j ss))
-      by true = append_assoc (get_or rows k []) (j ∷ numbers_in t Condition s.cond) (flat_map (of_selector t) (selects_at (symbol_at t k).name j ss))
-      by false = ap (λ xs. xs ++ flat_map (of_selector t) (selects_at (symbol_at t k).name j ss)) (append-nil (get_or rows k []))
+      by : (b : Bool) → get_or rows k [] ++ cond b (record { by = j; cond = s.cond } ∷ []) [] ++ selects_at (symbol_at t k).name j ss
+          ≡ get_or rows k [] ++ cond b (record { by = j; cond = s.cond } ∷ selects_at (symbol_at t k).name j ss) (selects_at (symbol_at t k).name j ss)
+      by true = append_assoc (get_or rows k []) (record { by = j; cond = s.cond } ∷ []) (selects_at (symbol_at t k).name j ss)
+      by false = ap (λ xs. xs ++ selects_at (symbol_at t k).name j ss) (append-nil (get_or rows k []))
 
   -- who selects or implies a symbol, among those from number j on
   abbrev linkers_from : Link → List ℕ → ℕ → List Symbol → List Selector
   linkers_from link name j [] = []
   linkers_from link name j (s ∷ ss) = selects_at name j (list_of link s) ++ linkers_from link name (suc j) ss
 
-  all_at : (link : Link) (j : ℕ) (rows : List (List ℕ)) (ss : List Symbol) (k : ℕ) → k < length rows → k < length t.symbols
-      → get_or (linked_all t link j rows ss) k [] ≡ get_or rows k [] ++ flat_map (of_selector t) (linkers_from link (symbol_at t k).name j ss)
+  all_at : (link : Link) (j : ℕ) (rows : List (List Selector)) (ss : List Symbol) (k : ℕ) → k < length rows → k < length t.symbols
+      → get_or (linked_all t link j rows ss) k [] ≡ get_or rows k [] ++ linkers_from link (symbol_at t k).name j ss
   all_at link j rows [] k l m = sym (append-nil (get_or rows k []))
   all_at link j rows (s ∷ ss) k l m = all_at link (suc j) (linked_each t j rows (list_of link s)) ss k (subst (λ n. k < n) (sym (length-each j rows (list_of link s))) l) m
-      ∙ (ap (λ xs. xs ++ flat_map (of_selector t) (linkers_from link (symbol_at t k).name (suc j) ss)) (each_at j rows (list_of link s) k l m)
-      ∙ (append_assoc (get_or rows k []) (flat_map (of_selector t) (selects_at (symbol_at t k).name j (list_of link s))) (flat_map (of_selector t) (linkers_from link (symbol_at t k).name (suc j) ss))
-      ∙ ap (λ xs. get_or rows k [] ++ xs) (sym (flat_map-append (of_selector t) (selects_at (symbol_at t k).name j (list_of link s)) (linkers_from link (symbol_at t k).name (suc j) ss)))))
+      ∙ (ap (λ xs. xs ++ linkers_from link (symbol_at t k).name (suc j) ss) (each_at j rows (list_of link s) k l m)
+      ∙ append_assoc (get_or rows k []) (selects_at (symbol_at t k).name j (list_of link s)) (linkers_from link (symbol_at t k).name (suc j) ss))
 
   by_selects : (name : List ℕ) (j : ℕ) (ss : List Symbol) → linkers_from Selects name j ss ≡ selects_from name j ss
   by_selects name j [] = refl
@@ -121,6 +117,6 @@ module _ (t : Shape) (apart : AreApart text_eq (names_in t.symbols)) where
   linkers_are Implies k = by_implies (symbol_at t k).name 0 t.symbols
 
   -- the list of a symbol
-  pub links_at : (link : Link) (k : ℕ) → k < length t.symbols → get_or (linked_all t link 0 (replicate (length t.symbols) []) t.symbols) k [] ≡ flat_map (of_selector t) (linkers_of link t k)
+  pub links_at : (link : Link) (k : ℕ) → k < length t.symbols → get_or (linked_all t link 0 (replicate (length t.symbols) []) t.symbols) k [] ≡ linkers_of link t k
   links_at link k l = all_at link 0 (replicate (length t.symbols) []) t.symbols k (subst (λ n. k < n) (sym (length-replicate (length t.symbols) [])) l) l
-      ∙ (ap (λ xs. xs ++ flat_map (of_selector t) (linkers_from link (symbol_at t k).name 0 t.symbols)) (get_or-replicate (length t.symbols) k [] [] l) ∙ ap (flat_map (of_selector t)) (linkers_are link k))
+      ∙ (ap (λ xs. xs ++ linkers_from link (symbol_at t k).name 0 t.symbols) (get_or-replicate (length t.symbols) k [] [] l) ∙ linkers_are link k)

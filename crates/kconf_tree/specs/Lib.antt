@@ -4,11 +4,14 @@ pub mod Gathered
 pub mod Value
 pub mod Properties
 pub mod Valid
+pub mod Right
 pub mod References
 pub mod Graph
 pub mod Orders
 pub mod Limits
 pub mod Arranged
+pub mod Made
+pub mod Undeclared
 pub mod Built
 pub mod Apart
 -- the words of inner functions
@@ -16,7 +19,9 @@ pub mod Types
 pub mod Gathering
 pub mod Choosing
 pub mod Modules
+pub mod PartsInside
 pub mod TreeInside
+pub mod Feeding
 pub mod Linking
 pub mod Links
 pub mod Numbering

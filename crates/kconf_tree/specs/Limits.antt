@@ -18,8 +18,11 @@ abbrev pub first_past : Limit → ℕ → List ℕ → Option Passed
 first_past what limit [] = None
 first_past what limit (n ∷ ns) = option_or (past what limit n) (first_past what limit ns)
 
--- symbols first, then the members of each choice, then the defaults of each symbol
+-- the members of each choice first, then the defaults of each symbol
+abbrev pub each_past : List Choice → List Symbol → Option Passed
+each_past cs ss = option_or (first_past Members 1024 (map (λ (c : Choice). length c.members) cs))
+    (first_past Defaults 1024 (map (λ (s : Symbol). length s.defaults) ss))
+
+-- symbols first, then the others
 abbrev pub first_passed : Shape → Option Passed
-first_passed t = option_or (past Symbols 65536 (length t.symbols))
-    (option_or (first_past Members 1024 (map (λ (c : Choice). length c.members) t.choices))
-    (first_past Defaults 1024 (map (λ (s : Symbol). length s.defaults) t.symbols)))
+first_passed t = option_or (past Symbols 65536 (length t.symbols)) (each_past t.choices t.symbols)

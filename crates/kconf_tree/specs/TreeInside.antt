@@ -1,23 +1,14 @@
--- The parts of a tree, and what is true of them. No public contract cites this module.
-use Rattle.std.specs.Prelude.{◌≡◌, ◌<◌, ◌≤◌, ◌^◌, length, All, IfSome}
-use Rattle.ut_logic.specs.Text.{text_eq}
-use Rattle.kconf_tree.specs.declared.shape.Symbol.{Symbol}
-use Rattle.kconf_tree.specs.declared.shape.Choice.{Choice}
+-- The fields of a tree, and what is true of them. No public contract cites this module.
 use Rattle.kconf_tree.specs.declared.tree.Tree.TheInside.{Inside}
-use Rattle.kconf_tree.specs.Types.{typed}
 use Rattle.kconf_tree.specs.Arranged.{Arranged}
-use Rattle.kconf_tree.specs.Apart.{AreApart, names_in}
+use Rattle.kconf_tree.specs.Links.{AreLinks}
+use Rattle.kconf_tree.specs.Made.{IsArranged}
 
--- the tree of the parts
+-- the tree of the fields
 abbrev pub arranged_of : Inside → Arranged
-arranged_of t = record { shape = record { symbols = t.symbols.items; choices = t.choices.items; outers = t.outers.keys; modules = t.modules }; order = t.order.items }
+arranged_of t = record { shape = t.parts; order = t.order.items }
 
--- names lead to their symbols, and no number passes its room
-pub record IsKept (t : Inside) : Type 0 where
-  pub named : names_in (typed t.types).symbols ≡ names_in t.symbols.items
-  pub apart : AreApart text_eq (names_in t.symbols.items)
-  pub symbols : length t.symbols.items ≤ 65536
-  pub choices : length t.choices.items < 2 ^ 32
-  pub modules : IfSome t.modules (λ k. k < length t.symbols.items)
-  pub member_of : All (λ (s : Symbol). IfSome s.member_of (λ i. i < length t.choices.items)) t.symbols.items
-  pub members : All (λ (c : Choice). All (λ k. k < length t.symbols.items) c.members) t.choices.items
+-- the rows are those of the selects and implies, and the order is one
+pub record IsWhole (t : Inside) : Type 0 where
+  pub links : AreLinks t.parts t.links
+  pub arranged : IsArranged (arranged_of t)

@@ -10,6 +10,7 @@
 //! it, the limits of a symbol, and which configurations are valid.
 #![tactic(auto)]
 
+mod asked_comparison;
 mod bad;
 mod choices;
 mod cycle;
@@ -24,12 +25,14 @@ mod modules_symbol;
 mod node_references;
 mod numbering;
 mod order;
+mod outer_text;
 mod outers;
+mod parts;
+mod parts_graph;
 mod place;
 mod references;
 mod shape;
 mod tree;
-mod tree_graph;
 mod types;
 
 pub use bad::TreeBad;

@@ -67,7 +67,7 @@ fn past_defaults(symbols: &[Symbol]) -> Option<Passed>
 
 /// The members of a choice, or else the defaults of a symbol, that pass their limit.
 pub fn past_each(choices: &[Choice], symbols: &[Symbol]) -> Option<Passed>
-    ensures { result ≡ option_or (spec.first_past Limit.Members 1024 (map (λ (c : one_choice.Choice). length c.members) choices.now)) (spec.first_past Limit.Defaults 1024 (map (λ (s : one_symbol.Symbol). length s.defaults) symbols.now)) }
+    ensures { result ≡ spec.each_past choices.now symbols.now }
 {
     past_members(choices).or(past_defaults(symbols))
 }

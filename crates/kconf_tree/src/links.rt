@@ -1,13 +1,13 @@
-ghost use Rattle.std.specs.Prelude.{◌≡◌, ◌<◌, [], length, All, IfOk, OnOk, replicate, slice_index_or};
+ghost use Rattle.std.specs.Prelude.{◌≡◌, ◌<◌, [], length, IfOk, OnOk, replicate, slice_index_or};
 ghost use Rattle.kconf_tree.specs.Shape.{no_symbol};
 ghost use Rattle.ut_logic.specs.Text.{text_eq};
 ghost use Rattle.kconf_tree.specs.Apart.{AreApart};
 ghost use Rattle.kconf_tree.specs.Apart.{names_in};
 ghost use Rattle.kconf_tree.specs.Linking.{linked_one, linked_each, linked_all, list_of};
-ghost use Rattle.kconf_tree.specs.Links.{AreLinks};
+ghost use Rattle.kconf_tree.specs.Links.{AreBelow, AreLinks};
 
-use crate::place::Place;
-use crate::tree::Tree;
+use crate::parts::Parts;
+use crate::shape::Selector;
 use kconf_parse::SelectOf;
 use sqlite_items::Items;
 use std::alloc::{AllocError, Global};
@@ -20,7 +20,7 @@ pub enum Link {
 }
 
 /// So many empty lists.
-fn empty_rows(alloc: Global, count: u32) -> Result<Vec<Items<u32>>, AllocError>
+fn empty_rows(alloc: Global, count: u32) -> Result<Vec<Items<Selector>>, AllocError>
     ensures { IfOk result (λ rows. rows.items ≡ replicate count []) }
 {
     let mut rows = Vec::with_capacity(alloc, count as usize)?;
@@ -30,28 +30,33 @@ fn empty_rows(alloc: Global, count: u32) -> Result<Vec<Items<u32>>, AllocError>
     Ok(rows)
 }
 
-/// For each symbol, what those that select it and those that imply it bring in.
+/// For each symbol, those that select it and those that imply it.
 #[derive(Drop)]
 pub struct Links {
-    pub selects: Vec<Items<u32>>,
-    pub implies: Vec<Items<u32>>,
+    pub selects: Vec<Items<Selector>>,
+    pub implies: Vec<Items<Selector>>,
 }
 
-impl Tree {
-    /// Adds a select or an imply of a symbol to what its target refers to.
-    fn link(&self, by: u32, select: &SelectOf, rows: &mut Vec<Items<u32>>) -> Result<(), AllocError>
-        requires count { length rows.old.items ≡ length self.now.shape.symbols }
-        requires by { by < length self.now.shape.symbols }
-        requires within { All (λ row. All (λ k. k < length self.now.shape.symbols) row) rows.old.items }
-        ensures rows { OnOk result (rows.new.items ≡ linked_one self.now.shape by rows.old.items select.now) }
-        ensures within { OnOk result (All (λ row. All (λ k. k < length self.now.shape.symbols) row) rows.new.items) }
+impl Parts {
+    /// Adds a select or an imply of a symbol to the row of its target.
+    fn link(
+        &self,
+        alloc: Global,
+        by: u32,
+        select: &SelectOf,
+        rows: &mut Vec<Items<Selector>>,
+    ) -> Result<(), AllocError>
+        requires count { length rows.old.items ≡ length self.now.symbols }
+        requires by { by < length self.now.symbols }
+        requires within { AreBelow (length self.now.symbols) rows.old.items }
+        ensures rows { OnOk result (rows.new.items ≡ linked_one self.now by rows.old.items select.now) }
+        ensures within { OnOk result (AreBelow (length self.now.symbols) rows.new.items) }
     {
         match self.symbol(select.target.text()) {
             None => Ok(()),
             Some(target) => {
-                let row = &mut rows[target as usize];
-                row.push(by)?;
-                self.mention(Place::Condition, &select.cond, row)
+                let cond = select.cond.copy(alloc)?;
+                rows[target as usize].push(Selector { by, cond })
             }
         }
     }
@@ -59,27 +64,28 @@ impl Tree {
     /// Adds all selects or implies of a symbol.
     fn link_each(
         &self,
+        alloc: Global,
         by: u32,
         list: &[SelectOf],
-        rows: &mut Vec<Items<u32>>,
+        rows: &mut Vec<Items<Selector>>,
     ) -> Result<(), AllocError>
-        requires count { length rows.old.items ≡ length self.now.shape.symbols }
-        requires by { by < length self.now.shape.symbols }
-        requires within { All (λ row. All (λ k. k < length self.now.shape.symbols) row) rows.old.items }
-        ensures rows { OnOk result (rows.new.items ≡ linked_each self.now.shape by rows.old.items list.now) }
+        requires count { length rows.old.items ≡ length self.now.symbols }
+        requires by { by < length self.now.symbols }
+        requires within { AreBelow (length self.now.symbols) rows.old.items }
+        ensures rows { OnOk result (rows.new.items ≡ linked_each self.now by rows.old.items list.now) }
         ensures count { OnOk result (length rows.new.items ≡ length rows.old.items) }
-        ensures within { OnOk result (All (λ row. All (λ k. k < length self.now.shape.symbols) row) rows.new.items) }
+        ensures within { OnOk result (AreBelow (length self.now.symbols) rows.new.items) }
     {
         for select in list {
-            self.link(by, select, rows)?;
+            self.link(alloc, by, select, rows)?;
         }
         Ok(())
     }
 
     /// What a symbol selects, or what it implies.
     fn list(&self, link: Link, sym: u32) -> &[SelectOf]
-        requires { sym < length self.now.shape.symbols }
-        ensures { result.now ≡ list_of link (slice_index_or self.now.shape.symbols sym no_symbol) }
+        requires { sym < length self.now.symbols }
+        ensures { result.now ≡ list_of link (slice_index_or self.now.symbols sym no_symbol) }
     {
         match link {
             Link::Selects => self.selects(sym),
@@ -87,23 +93,27 @@ impl Tree {
         }
     }
 
-    /// For each symbol, those that select or imply it, each with what the condition asks for.
-    pub(crate) fn linked(&self, alloc: Global, link: Link) -> Result<Vec<Items<u32>>, AllocError>
-        ensures rows { IfOk result (λ rows. rows.items ≡ linked_all self.now.shape link 0 (replicate (length self.now.shape.symbols) []) self.now.shape.symbols) }
-        ensures count { IfOk result (λ rows. length rows.items ≡ length self.now.shape.symbols) }
-        ensures within { IfOk result (λ rows. All (λ row. All (λ k. k < length self.now.shape.symbols) row) rows.items) }
+    /// For each symbol, those that select or imply it.
+    pub(crate) fn linked(
+        &self,
+        alloc: Global,
+        link: Link,
+    ) -> Result<Vec<Items<Selector>>, AllocError>
+        ensures rows { IfOk result (λ rows. rows.items ≡ linked_all self.now link 0 (replicate (length self.now.symbols) []) self.now.symbols) }
+        ensures count { IfOk result (λ rows. length rows.items ≡ length self.now.symbols) }
+        ensures within { IfOk result (λ rows. AreBelow (length self.now.symbols) rows.items) }
     {
         let mut rows = empty_rows(alloc, self.symbols())?;
         for sym in 0..self.symbols() {
-            self.link_each(sym, self.list(link, sym), &mut rows)?;
+            self.link_each(alloc, sym, self.list(link, sym), &mut rows)?;
         }
         Ok(rows)
     }
 
-    /// What the selects and implies of all symbols bring in. The only error is want of memory.
+    /// The selects and implies of all symbols, as their targets see them. The only error is want of memory.
     pub(crate) fn links(&self, alloc: Global) -> Result<Links, AllocError>
-        requires { AreApart text_eq (names_in self.now.shape.symbols) }
-        ensures { IfOk result (AreLinks self.now.shape) }
+        requires { AreApart text_eq (names_in self.now.symbols) }
+        ensures { IfOk result (AreLinks self.now) }
     {
         let selects = self.linked(alloc, Link::Selects)?;
         let implies = self.linked(alloc, Link::Implies)?;

@@ -3,12 +3,13 @@ ghost use Rattle.std.specs.List.{flat_map};
 ghost use Rattle.kconf_tree.specs.Shape as shape;
 ghost use Rattle.kconf_tree.specs.References as spec;
 ghost use Rattle.kconf_tree.specs.Links.{AreLinks};
+ghost use Rattle.kconf_tree.specs.declared.shape.Selector as one;
 
 use crate::links::Links;
+use crate::parts::Parts;
 use crate::place::Place;
 use crate::references::push;
-use crate::shape::Counts;
-use crate::tree::Tree;
+use crate::shape::{Counts, Selector};
 use kconf_parse::{Kind, SelectOf};
 use sqlite_items::Items;
 use std::alloc::AllocError;
@@ -48,21 +49,11 @@ fn is_the(number: Option<u32>, wanted: u32) -> bool
     }
 }
 
-/// Adds numbers to a row.
-fn push_all(row: &mut Items<u32>, numbers: &[u32]) -> Result<(), AllocError>
-    ensures { OnOk result (row.new ≡ row.old ++ numbers.now) }
-{
-    for number in numbers {
-        row.push(*number)?;
-    }
-    Ok(())
-}
-
-impl Tree {
+impl Parts {
     /// What a symbol counts as by its own type, or by its choice.
     fn counts_by_type(&self, sym: u32) -> Counts
-        requires { sym < length self.now.shape.symbols }
-        ensures { result ≡ shape.counts_with self.now.shape (shape.symbol_at self.now.shape sym).kind (shape.symbol_at self.now.shape sym).member_of }
+        requires { sym < length self.now.symbols }
+        ensures { result ≡ shape.counts_with self.now (shape.symbol_at self.now sym).kind (shape.symbol_at self.now sym).member_of }
     {
         match self.member_of(sym) {
             None => counts_alone(self.kind(sym)),
@@ -72,8 +63,8 @@ impl Tree {
 
     /// What a symbol counts as; the modules symbol is bool.
     pub fn counts_as(&self, sym: u32) -> Counts
-        requires { sym < length self.now.shape.symbols }
-        ensures { result ≡ shape.counts_as self.now.shape sym }
+        requires { sym < length self.now.symbols }
+        ensures { result ≡ shape.counts_as self.now sym }
     {
         match self.modules() {
             None => self.counts_by_type(sym),
@@ -89,9 +80,9 @@ impl Tree {
 
     /// Adds the modules symbol for what counts as tristate.
     fn mention_type(&self, counts: Counts, row: &mut Items<u32>) -> Result<(), AllocError>
-        requires { All (λ k. k < length self.now.shape.symbols) row.old }
-        ensures row { OnOk result (row.new ≡ row.old ++ spec.of_type self.now.shape counts) }
-        ensures within { OnOk result (All (λ k. k < length self.now.shape.symbols) row.new) }
+        requires { All (λ k. k < length self.now.symbols) row.old }
+        ensures row { OnOk result (row.new ≡ row.old ++ spec.of_type self.now counts) }
+        ensures within { OnOk result (All (λ k. k < length self.now.symbols) row.new) }
     {
         match counts {
             Counts::Tristate => push(row, self.modules()),
@@ -102,11 +93,11 @@ impl Tree {
     /// Adds a symbol's own references: those of its prompts, defaults and type, and of its places where
     /// some symbol implies it.
     fn mention_own(&self, sym: u32, links: &Links, row: &mut Items<u32>) -> Result<(), AllocError>
-        requires sym { sym < length self.now.shape.symbols }
-        requires links { AreLinks self.now.shape links.now }
-        requires within { All (λ k. k < length self.now.shape.symbols) row.old }
-        ensures row { OnOk result (row.new ≡ row.old ++ spec.own_references self.now.shape sym) }
-        ensures within { OnOk result (All (λ k. k < length self.now.shape.symbols) row.new) }
+        requires sym { sym < length self.now.symbols }
+        requires links { AreLinks self.now links.now }
+        requires within { All (λ k. k < length self.now.symbols) row.old }
+        ensures row { OnOk result (row.new ≡ row.old ++ spec.own_references self.now sym) }
+        ensures within { OnOk result (All (λ k. k < length self.now.symbols) row.new) }
     {
         self.mention_each(Place::Condition, self.prompts(sym), row)?;
         self.mention_defaults(self.defaults(sym), row)?;
@@ -121,16 +112,34 @@ impl Tree {
         links: &Links,
         row: &mut Items<u32>,
     ) -> Result<(), AllocError>
-        requires sym { sym < length self.now.shape.symbols }
-        requires links { AreLinks self.now.shape links.now }
-        requires within { All (λ k. k < length self.now.shape.symbols) row.old }
-        ensures row { OnOk result (row.new ≡ row.old ++ spec.of_implied self.now.shape (shape.impliers_of self.now.shape sym) (shape.symbol_at self.now.shape sym).places) }
-        ensures within { OnOk result (All (λ k. k < length self.now.shape.symbols) row.new) }
+        requires sym { sym < length self.now.symbols }
+        requires links { AreLinks self.now links.now }
+        requires within { All (λ k. k < length self.now.symbols) row.old }
+        ensures row { OnOk result (row.new ≡ row.old ++ spec.of_implied self.now (shape.impliers_of self.now sym) (shape.symbol_at self.now sym).places) }
+        ensures within { OnOk result (All (λ k. k < length self.now.symbols) row.new) }
     {
         if links.implies[sym as usize].is_empty() {
             return Ok(());
         }
         self.mention_each(Place::Condition, self.places(sym), row)
+    }
+
+    /// Adds what selects or implies bring in: the symbols that have them, and their conditions'.
+    fn mention_selectors(
+        &self,
+        selectors: &[Selector],
+        row: &mut Items<u32>,
+    ) -> Result<(), AllocError>
+        requires selectors { All (λ (s : one.Selector). s.by < length self.now.symbols) selectors.now }
+        requires within { All (λ k. k < length self.now.symbols) row.old }
+        ensures row { OnOk result (row.new ≡ row.old ++ flat_map (spec.of_selector self.now) selectors.now) }
+        ensures within { OnOk result (All (λ k. k < length self.now.symbols) row.new) }
+    {
+        for selector in selectors {
+            row.push(selector.by)?;
+            self.mention(Place::Condition, &selector.cond, row)?;
+        }
+        Ok(())
     }
 
     /// Adds the references of a symbol that is no member.
@@ -140,15 +149,15 @@ impl Tree {
         links: &Links,
         row: &mut Items<u32>,
     ) -> Result<(), AllocError>
-        requires sym { sym < length self.now.shape.symbols }
-        requires links { AreLinks self.now.shape links.now }
-        requires within { All (λ k. k < length self.now.shape.symbols) row.old }
-        ensures row { OnOk result (row.new ≡ row.old ++ spec.symbol_references self.now.shape sym) }
-        ensures within { OnOk result (All (λ k. k < length self.now.shape.symbols) row.new) }
+        requires sym { sym < length self.now.symbols }
+        requires links { AreLinks self.now links.now }
+        requires within { All (λ k. k < length self.now.symbols) row.old }
+        ensures row { OnOk result (row.new ≡ row.old ++ spec.symbol_references self.now sym) }
+        ensures within { OnOk result (All (λ k. k < length self.now.symbols) row.new) }
     {
         self.mention_own(sym, links, row)?;
-        push_all(row, links.selects[sym as usize].as_slice())?;
-        push_all(row, links.implies[sym as usize].as_slice())
+        self.mention_selectors(links.selects[sym as usize].as_slice(), row)?;
+        self.mention_selectors(links.implies[sym as usize].as_slice(), row)
     }
 
     /// Adds what a choice default picks, where that is no member of the choice.
@@ -158,9 +167,9 @@ impl Tree {
         name: &Text,
         row: &mut Items<u32>,
     ) -> Result<(), AllocError>
-        requires { All (λ k. k < length self.now.shape.symbols) row.old }
-        ensures row { OnOk result (row.new ≡ row.old ++ spec.picked_outside self.now.shape choice (shape.number_of self.now.shape name.now)) }
-        ensures within { OnOk result (All (λ k. k < length self.now.shape.symbols) row.new) }
+        requires { All (λ k. k < length self.now.symbols) row.old }
+        ensures row { OnOk result (row.new ≡ row.old ++ spec.picked_outside self.now choice (shape.number_of self.now name.now)) }
+        ensures within { OnOk result (All (λ k. k < length self.now.symbols) row.new) }
     {
         match self.symbol(name.text()) {
             None => Ok(()),
@@ -181,9 +190,9 @@ impl Tree {
         defaults: &[SelectOf],
         row: &mut Items<u32>,
     ) -> Result<(), AllocError>
-        requires { All (λ k. k < length self.now.shape.symbols) row.old }
-        ensures row { OnOk result (row.new ≡ row.old ++ flat_map (spec.of_choice_default self.now.shape choice) defaults.now) }
-        ensures within { OnOk result (All (λ k. k < length self.now.shape.symbols) row.new) }
+        requires { All (λ k. k < length self.now.symbols) row.old }
+        ensures row { OnOk result (row.new ≡ row.old ++ flat_map (spec.of_choice_default self.now choice) defaults.now) }
+        ensures within { OnOk result (All (λ k. k < length self.now.symbols) row.new) }
     {
         for default in defaults {
             self.mention_picked(choice, &default.target, row)?;
@@ -199,11 +208,11 @@ impl Tree {
         links: &Links,
         row: &mut Items<u32>,
     ) -> Result<(), AllocError>
-        requires members { All (λ k. k < length self.now.shape.symbols) members.now }
-        requires links { AreLinks self.now.shape links.now }
-        requires within { All (λ k. k < length self.now.shape.symbols) row.old }
-        ensures row { OnOk result (row.new ≡ row.old ++ flat_map (spec.own_references self.now.shape) members.now) }
-        ensures within { OnOk result (All (λ k. k < length self.now.shape.symbols) row.new) }
+        requires members { All (λ k. k < length self.now.symbols) members.now }
+        requires links { AreLinks self.now links.now }
+        requires within { All (λ k. k < length self.now.symbols) row.old }
+        ensures row { OnOk result (row.new ≡ row.old ++ flat_map (spec.own_references self.now) members.now) }
+        ensures within { OnOk result (All (λ k. k < length self.now.symbols) row.new) }
     {
         for member in members {
             self.mention_own(*member, links, row)?;
@@ -218,11 +227,11 @@ impl Tree {
         links: &Links,
         row: &mut Items<u32>,
     ) -> Result<(), AllocError>
-        requires choice { choice < length self.now.shape.choices }
-        requires links { AreLinks self.now.shape links.now }
-        requires within { All (λ k. k < length self.now.shape.symbols) row.old }
-        ensures row { OnOk result (row.new ≡ row.old ++ spec.choice_references self.now.shape choice) }
-        ensures within { OnOk result (All (λ k. k < length self.now.shape.symbols) row.new) }
+        requires choice { choice < length self.now.choices }
+        requires links { AreLinks self.now links.now }
+        requires within { All (λ k. k < length self.now.symbols) row.old }
+        ensures row { OnOk result (row.new ≡ row.old ++ spec.choice_references self.now choice) }
+        ensures within { OnOk result (All (λ k. k < length self.now.symbols) row.new) }
     {
         self.mention_each(Place::Condition, self.choice_prompts(choice), row)?;
         self.mention_choice_defaults(choice, self.choice_defaults(choice), row)?;

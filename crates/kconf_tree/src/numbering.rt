@@ -7,7 +7,7 @@ ghost use Rattle.kconf_tree.specs.Links.{AreLinks, AreRowsBelow};
 ghost use Rattle.kconf_tree.specs.Numbering.{lists_of, place_among, places_among};
 
 use crate::links::Links;
-use crate::tree::Tree;
+use crate::parts::Parts;
 use indexmap::IndexSet;
 use sqlite_items::Items;
 use std::alloc::{AllocError, Global};
@@ -31,11 +31,11 @@ pub fn place(nodes: &IndexSet<Node>, node: Node) -> usize
     }
 }
 
-impl Tree {
+impl Parts {
     /// The node of a symbol.
     pub(crate) fn node_of(&self, sym: u32) -> Node
-        requires { sym < length self.now.shape.symbols }
-        ensures { result ≡ spec.node_of self.now.shape sym }
+        requires { sym < length self.now.symbols }
+        ensures { result ≡ spec.node_of self.now sym }
     {
         match self.member_of(sym) {
             None => Node::Sym(sym),
@@ -45,10 +45,10 @@ impl Tree {
 
     /// The numbers of the symbols that the node of a symbol refers to.
     fn list_of(&self, alloc: Global, sym: u32, links: &Links) -> Result<Items<u32>, AllocError>
-        requires sym { sym < length self.now.shape.symbols }
-        requires links { AreLinks self.now.shape links.now }
-        ensures row { IfOk result (λ row. row ≡ spec.numbers_of self.now.shape (spec.node_of self.now.shape sym)) }
-        ensures within { IfOk result (λ row. All (λ k. k < length self.now.shape.symbols) row) }
+        requires sym { sym < length self.now.symbols }
+        requires links { AreLinks self.now links.now }
+        ensures row { IfOk result (λ row. row ≡ spec.numbers_of self.now (spec.node_of self.now sym)) }
+        ensures within { IfOk result (λ row. All (λ k. k < length self.now.symbols) row) }
     {
         let mut row = Items::new(alloc);
         match self.member_of(sym) {
@@ -66,13 +66,13 @@ impl Tree {
         links: &Links,
         found: &mut NodeLists,
     ) -> Result<(), AllocError>
-        requires sym { sym < length self.now.shape.symbols }
-        requires links { AreLinks self.now.shape links.now }
-        requires lists { found.old.lists.items ≡ lists_of self.now.shape found.old.nodes.keys }
-        requires within { AreRowsBelow (length self.now.shape.symbols) found.old.lists.items }
-        ensures nodes { OnOk result (found.new.nodes.keys ≡ insert_key node_eq found.old.nodes.keys (spec.node_of self.now.shape sym)) }
-        ensures lists { OnOk result (found.new.lists.items ≡ lists_of self.now.shape found.new.nodes.keys) }
-        ensures within { OnOk result (AreRowsBelow (length self.now.shape.symbols) found.new.lists.items) }
+        requires sym { sym < length self.now.symbols }
+        requires links { AreLinks self.now links.now }
+        requires lists { found.old.lists.items ≡ lists_of self.now found.old.nodes.keys }
+        requires within { AreRowsBelow (length self.now.symbols) found.old.lists.items }
+        ensures nodes { OnOk result (found.new.nodes.keys ≡ insert_key node_eq found.old.nodes.keys (spec.node_of self.now sym)) }
+        ensures lists { OnOk result (found.new.lists.items ≡ lists_of self.now found.new.nodes.keys) }
+        ensures within { OnOk result (AreRowsBelow (length self.now.symbols) found.new.lists.items) }
     {
         if found.nodes.insert(self.node_of(sym))? {
             found.lists.push(self.list_of(alloc, sym, links)?)?;
@@ -82,10 +82,10 @@ impl Tree {
 
     /// The nodes in order with their lists. The only error is want of memory.
     pub(crate) fn node_lists(&self, alloc: Global, links: &Links) -> Result<NodeLists, AllocError>
-        requires { AreLinks self.now.shape links.now }
-        ensures nodes { IfOk result (λ f. f.nodes.keys ≡ nodes_of self.now.shape) }
-        ensures lists { IfOk result (λ f. f.lists.items ≡ lists_of self.now.shape (nodes_of self.now.shape)) }
-        ensures within { IfOk result (λ f. AreRowsBelow (length self.now.shape.symbols) f.lists.items) }
+        requires { AreLinks self.now links.now }
+        ensures nodes { IfOk result (λ f. f.nodes.keys ≡ nodes_of self.now) }
+        ensures lists { IfOk result (λ f. f.lists.items ≡ lists_of self.now (nodes_of self.now)) }
+        ensures within { IfOk result (λ f. AreRowsBelow (length self.now.symbols) f.lists.items) }
     {
         let mut found = NodeLists {
             nodes: IndexSet::new(alloc),

@@ -7,6 +7,7 @@ ghost use Rattle.kconf_tree.specs.Types.{typed, outers_of_default, outers_with};
 ghost use Rattle.kconf_parse.specs.declared.entries.SelectOf as declared;
 ghost use Rattle.kconf_parse.specs.declared.expr.Expr.TheOpen.{Expr-F as step};
 
+use crate::outer_text::OuterText;
 use crate::types::Types;
 use indexmap::IndexSet;
 use kconf_parse::{ChoiceEntry, ConfigEntry, DefaultOf, Expr, SelectOf, Side, Sign};
@@ -14,7 +15,7 @@ use std::alloc::{AllocError, Global};
 use ut_logic::{Text, Trit};
 
 /// A sign as it is written.
-fn sign_text(sign: Sign) -> &'static str
+pub fn sign_text(sign: Sign) -> &'static str
     ensures { result.now ≡ value.sign_text sign }
 {
     match sign {
@@ -28,7 +29,7 @@ fn sign_text(sign: Sign) -> &'static str
 }
 
 /// A constant as it is written.
-fn trit_text(trit: Trit) -> &'static str
+pub fn trit_text(trit: Trit) -> &'static str
     ensures { result.now ≡ value.trit_text trit }
 {
     match trit {
@@ -217,12 +218,12 @@ fn push_choices(
 }
 
 /// The texts of a list, each at its first place.
-fn distinct(alloc: Global, texts: Vec<Text>) -> Result<IndexSet<Text>, AllocError>
+fn distinct(alloc: Global, texts: Vec<Text>) -> Result<IndexSet<OuterText>, AllocError>
     ensures { IfOk result (λ s. s.keys ≡ spec.once texts.items) }
 {
     let mut set = IndexSet::new(alloc);
     for text in texts {
-        set.insert(text)?;
+        set.insert(OuterText::new(text))?;
     }
     Ok(set)
 }
@@ -233,7 +234,7 @@ pub fn outers(
     types: &Types,
     configs: &[ConfigEntry],
     choices: &[ChoiceEntry],
-) -> Result<IndexSet<Text>, AllocError>
+) -> Result<IndexSet<OuterText>, AllocError>
     ensures { IfOk result (λ s. s.keys ≡ outers_with (typed types.now) configs.now choices.now) }
 {
     let mut texts = Vec::new(alloc);

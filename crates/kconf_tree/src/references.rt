@@ -4,8 +4,8 @@ ghost use Rattle.std.specs.List.{flat_map};
 ghost use Rattle.kconf_tree.specs.Value as value;
 ghost use Rattle.kconf_tree.specs.References as spec;
 
+use crate::parts::Parts;
 use crate::place::Place;
-use crate::tree::Tree;
 use crate::types::is_text_or_number;
 use kconf_parse::{DefaultOf, Expr, Side, Sign};
 use sqlite_items::Items;
@@ -22,10 +22,10 @@ pub fn push(row: &mut Items<u32>, number: Option<u32>) -> Result<(), AllocError>
     }
 }
 
-impl Tree {
+impl Parts {
     /// Whether a side has one of the three values.
     fn has_trit(&self, side: &Side) -> bool
-        ensures { result ≡ value.has_trit self.now.shape side.now }
+        ensures { result ≡ value.has_trit self.now side.now }
     {
         match side {
             Side::Const(_) => true,
@@ -38,26 +38,26 @@ impl Tree {
     }
 
     /// Whether a comparison compares two of the three values.
-    fn compares_trits(&self, left: &Side, sign: Sign, right: &Side) -> bool
-        ensures { result ≡ value.compares_trits self.now.shape left.now sign right.now }
+    pub fn compares_trits(&self, left: &Side, sign: Sign, right: &Side) -> bool
+        ensures { result ≡ value.compares_trits self.now left.now sign right.now }
     {
         matches!(sign, Sign::Same | Sign::Differ) && self.has_trit(left) && self.has_trit(right)
     }
 
     /// Adds the symbol that a name stands for.
     fn push_named(&self, name: &Text, row: &mut Items<u32>) -> Result<(), AllocError>
-        requires { All (λ k. k < length self.now.shape.symbols) row.old }
-        ensures row { OnOk result (row.new ≡ row.old ++ spec.named_by self.now.shape name.now) }
-        ensures within { OnOk result (All (λ k. k < length self.now.shape.symbols) row.new) }
+        requires { All (λ k. k < length self.now.symbols) row.old }
+        ensures row { OnOk result (row.new ≡ row.old ++ spec.named_by self.now name.now) }
+        ensures within { OnOk result (All (λ k. k < length self.now.symbols) row.new) }
     {
         push(row, self.symbol(name.text()))
     }
 
     /// Adds the symbol that a side names.
     fn push_side(&self, side: &Side, row: &mut Items<u32>) -> Result<(), AllocError>
-        requires { All (λ k. k < length self.now.shape.symbols) row.old }
-        ensures row { OnOk result (row.new ≡ row.old ++ spec.side_numbers self.now.shape side.now) }
-        ensures within { OnOk result (All (λ k. k < length self.now.shape.symbols) row.new) }
+        requires { All (λ k. k < length self.now.symbols) row.old }
+        ensures row { OnOk result (row.new ≡ row.old ++ spec.side_numbers self.now side.now) }
+        ensures within { OnOk result (All (λ k. k < length self.now.symbols) row.new) }
     {
         match side {
             Side::Name(name) => self.push_named(name, row),
@@ -67,9 +67,9 @@ impl Tree {
 
     /// Adds the modules symbol for a bare `m` in a condition.
     fn push_const(&self, place: Place, trit: Trit, row: &mut Items<u32>) -> Result<(), AllocError>
-        requires { All (λ k. k < length self.now.shape.symbols) row.old }
-        ensures row { OnOk result (row.new ≡ row.old ++ spec.const_numbers self.now.shape place trit) }
-        ensures within { OnOk result (All (λ k. k < length self.now.shape.symbols) row.new) }
+        requires { All (λ k. k < length self.now.symbols) row.old }
+        ensures row { OnOk result (row.new ≡ row.old ++ spec.const_numbers self.now place trit) }
+        ensures within { OnOk result (All (λ k. k < length self.now.symbols) row.new) }
     {
         match place {
             Place::Value => Ok(()),
@@ -88,9 +88,9 @@ impl Tree {
         right: &Side,
         row: &mut Items<u32>,
     ) -> Result<(), AllocError>
-        requires { All (λ k. k < length self.now.shape.symbols) row.old }
-        ensures row { OnOk result (row.new ≡ row.old ++ spec.compared_numbers self.now.shape left.now sign right.now) }
-        ensures within { OnOk result (All (λ k. k < length self.now.shape.symbols) row.new) }
+        requires { All (λ k. k < length self.now.symbols) row.old }
+        ensures row { OnOk result (row.new ≡ row.old ++ spec.compared_numbers self.now left.now sign right.now) }
+        ensures within { OnOk result (All (λ k. k < length self.now.symbols) row.new) }
     {
         if !self.compares_trits(left, sign, right) {
             return Ok(());
@@ -107,9 +107,9 @@ impl Tree {
         e: &Expr,
         row: &mut Items<u32>,
     ) -> Result<(), AllocError>
-        requires { All (λ k. k < length self.now.shape.symbols) row.old }
-        ensures row { OnOk result (row.new ≡ row.old ++ spec.numbers_in self.now.shape place e.now) }
-        ensures within { OnOk result (All (λ k. k < length self.now.shape.symbols) row.new) }
+        requires { All (λ k. k < length self.now.symbols) row.old }
+        ensures row { OnOk result (row.new ≡ row.old ++ spec.numbers_in self.now place e.now) }
+        ensures within { OnOk result (All (λ k. k < length self.now.symbols) row.new) }
     {
         match e {
             Expr::Const(trit) => self.push_const(place, *trit, row),
@@ -130,9 +130,9 @@ impl Tree {
         list: &[Expr],
         row: &mut Items<u32>,
     ) -> Result<(), AllocError>
-        requires { All (λ k. k < length self.now.shape.symbols) row.old }
-        ensures row { OnOk result (row.new ≡ row.old ++ flat_map (spec.numbers_in self.now.shape place) list.now) }
-        ensures within { OnOk result (All (λ k. k < length self.now.shape.symbols) row.new) }
+        requires { All (λ k. k < length self.now.symbols) row.old }
+        ensures row { OnOk result (row.new ≡ row.old ++ flat_map (spec.numbers_in self.now place) list.now) }
+        ensures within { OnOk result (All (λ k. k < length self.now.symbols) row.new) }
     {
         for e in list {
             self.mention(place, e, row)?;
@@ -146,9 +146,9 @@ impl Tree {
         defaults: &[DefaultOf],
         row: &mut Items<u32>,
     ) -> Result<(), AllocError>
-        requires { All (λ k. k < length self.now.shape.symbols) row.old }
-        ensures row { OnOk result (row.new ≡ row.old ++ flat_map (spec.of_default self.now.shape) defaults.now) }
-        ensures within { OnOk result (All (λ k. k < length self.now.shape.symbols) row.new) }
+        requires { All (λ k. k < length self.now.symbols) row.old }
+        ensures row { OnOk result (row.new ≡ row.old ++ flat_map (spec.of_default self.now) defaults.now) }
+        ensures within { OnOk result (All (λ k. k < length self.now.symbols) row.new) }
     {
         for default in defaults {
             self.mention(Place::Condition, &default.cond, row)?;

@@ -1,28 +1,26 @@
-ghost use Rattle.std.specs.Prelude.{◌≡◌, ◌<◌, ◌≤◌, ◌^◌, length, slice_index_or, All, IfSome, []};
+ghost use Rattle.std.specs.Prelude.{◌≡◌, ◌<◌, ◌≤◌, length, slice_index_or, All, IfSome, []};
 ghost use Rattle.ut_logic.specs.Text.{text_eq};
 ghost use Rattle.kconf_tree.specs.Shape as spec;
 ghost use Rattle.kconf_tree.specs.Apart.{AreApart, names_in};
+ghost use Rattle.kconf_tree.specs.Made.{IsArranged};
 
 mod building;
-mod gathering;
-mod ordering;
+mod looking_up;
+mod referring;
+mod undeclared;
 
-use crate::shape::{Choice, Symbol};
-use crate::types::Types;
-use indexmap::IndexSet;
+use crate::links::Links;
+use crate::parts::Parts;
 use kconf_parse::{DefaultOf, Expr, Kind, SelectOf};
 use std::marker::Model;
-use ut_logic::{Node, Text};
+use ut_logic::Node;
 
 /// The symbols and choices of a Kconfig text, numbered from 0 in order of first declaration, with their
 /// properties, and an order in which each stands after all that it refers to.
 #[derive(Drop)]
 pub struct Tree {
-    types: Types,
-    symbols: Vec<Symbol>,
-    choices: Vec<Choice>,
-    outers: IndexSet<Text>,
-    modules: Option<u32>,
+    parts: Parts,
+    links: Links,
     order: Vec<Node>,
 }
 
@@ -35,11 +33,11 @@ impl Model for Tree {
 
     ghost coded = { Prim.hlevel (codes, e.the_row.coded) };
 
-    ghost use Rattle.kconf_tree.specs.TreeInside.{arranged_of, IsKept};
+    ghost use Rattle.kconf_tree.specs.TreeInside.{arranged_of, IsWhole};
 
     ghost view = { arranged_of };
 
-    ghost invariant = { IsKept };
+    ghost invariant = { IsWhole };
 }
 
 impl Tree {
@@ -49,21 +47,21 @@ impl Tree {
         ensures few { length self.now.shape.symbols ≤ 65536 }
         ensures apart { AreApart text_eq (names_in self.now.shape.symbols) }
     {
-        self.symbols.len() as u32
+        self.parts.symbols()
     }
 
     /// How many choices there are.
     pub fn choices(&self) -> u32
         ensures { result ≡ length self.now.shape.choices }
     {
-        self.choices.len() as u32
+        self.parts.choices()
     }
 
     /// How many outer conditions there are.
     pub fn outers(&self) -> u64
         ensures { result ≡ length self.now.shape.outers }
     {
-        self.outers.len() as u64
+        self.parts.outers()
     }
 
     /// The name of a symbol.
@@ -71,7 +69,7 @@ impl Tree {
         requires { sym < length self.now.shape.symbols }
         ensures { result.now ≡ (spec.symbol_at self.now.shape sym).name }
     {
-        self.symbols[sym as usize].name.text()
+        self.parts.name(sym)
     }
 
     /// The first type of a symbol.
@@ -79,7 +77,7 @@ impl Tree {
         requires { sym < length self.now.shape.symbols }
         ensures { result ≡ (spec.symbol_at self.now.shape sym).kind }
     {
-        self.symbols[sym as usize].kind
+        self.parts.kind(sym)
     }
 
     /// The choice that a symbol is a member of, if there is one.
@@ -88,7 +86,7 @@ impl Tree {
         ensures value { result ≡ (spec.symbol_at self.now.shape sym).member_of }
         ensures within { IfSome result (λ i. i < length self.now.shape.choices) }
     {
-        self.symbols[sym as usize].member_of
+        self.parts.member_of(sym)
     }
 
     /// The text of an outer condition.
@@ -96,10 +94,7 @@ impl Tree {
         requires { n < length self.now.shape.outers }
         ensures { result.now ≡ slice_index_or self.now.shape.outers n [] }
     {
-        match self.outers.get_index(n as usize) {
-            Some(text) => text.text(),
-            None => unreachable!(),
-        }
+        self.parts.outer(n)
     }
 
     /// The number of the symbol with this name, if there is one.
@@ -107,14 +102,7 @@ impl Tree {
         ensures number { result ≡ spec.number_of self.now.shape name.now }
         ensures within { IfSome result (λ k. k < length self.now.shape.symbols) }
     {
-        let count = self.symbols.len();
-        match self.types.number_of_text(name) {
-            Some(number) => {
-                prove!(number < count);
-                Some(number as u32)
-            }
-            None => None,
-        }
+        self.parts.symbol(name)
     }
 
     /// The number of the modules symbol, if there is one.
@@ -122,12 +110,13 @@ impl Tree {
         ensures value { result ≡ self.now.shape.modules }
         ensures within { IfSome result (λ k. k < length self.now.shape.symbols) }
     {
-        self.modules
+        self.parts.modules()
     }
 
     /// Each symbol and choice after all that it refers to, members beside their choice.
     pub fn order(&self) -> &[Node]
-        ensures { result.now ≡ self.now.order }
+        ensures list { result.now ≡ self.now.order }
+        ensures arranged { IsArranged self.now }
     {
         self.order.as_slice()
     }
@@ -137,7 +126,7 @@ impl Tree {
         requires { sym < length self.now.shape.symbols }
         ensures { result.now ≡ (spec.symbol_at self.now.shape sym).places }
     {
-        self.symbols[sym as usize].places.as_slice()
+        self.parts.places(sym)
     }
 
     /// The full conditions of a symbol's prompts.
@@ -145,7 +134,7 @@ impl Tree {
         requires { sym < length self.now.shape.symbols }
         ensures { result.now ≡ (spec.symbol_at self.now.shape sym).prompts }
     {
-        self.symbols[sym as usize].prompts.as_slice()
+        self.parts.prompts(sym)
     }
 
     /// The defaults of a symbol, in the order of the text.
@@ -153,7 +142,7 @@ impl Tree {
         requires { sym < length self.now.shape.symbols }
         ensures { result.now ≡ (spec.symbol_at self.now.shape sym).defaults }
     {
-        self.symbols[sym as usize].defaults.as_slice()
+        self.parts.defaults(sym)
     }
 
     /// What a symbol selects.
@@ -161,7 +150,7 @@ impl Tree {
         requires { sym < length self.now.shape.symbols }
         ensures { result.now ≡ (spec.symbol_at self.now.shape sym).selects }
     {
-        self.symbols[sym as usize].selects.as_slice()
+        self.parts.selects(sym)
     }
 
     /// What a symbol implies.
@@ -169,7 +158,7 @@ impl Tree {
         requires { sym < length self.now.shape.symbols }
         ensures { result.now ≡ (spec.symbol_at self.now.shape sym).implies }
     {
-        self.symbols[sym as usize].implies.as_slice()
+        self.parts.implies(sym)
     }
 
     /// The type of a choice.
@@ -177,7 +166,7 @@ impl Tree {
         requires { choice < length self.now.shape.choices }
         ensures { result ≡ (spec.choice_at self.now.shape choice).kind }
     {
-        self.choices[choice as usize].kind
+        self.parts.choice_kind(choice)
     }
 
     /// The members of a choice, in order of their numbers.
@@ -186,7 +175,7 @@ impl Tree {
         ensures value { result.now ≡ (spec.choice_at self.now.shape choice).members }
         ensures within { All (λ k. k < length self.now.shape.symbols) result.now }
     {
-        self.choices[choice as usize].members.as_slice()
+        self.parts.members(choice)
     }
 
     /// The full conditions of a choice's prompts.
@@ -194,7 +183,7 @@ impl Tree {
         requires { choice < length self.now.shape.choices }
         ensures { result.now ≡ (spec.choice_at self.now.shape choice).prompts }
     {
-        self.choices[choice as usize].prompts.as_slice()
+        self.parts.choice_prompts(choice)
     }
 
     /// The defaults of a choice, in the order of the text.
@@ -202,7 +191,7 @@ impl Tree {
         requires { choice < length self.now.shape.choices }
         ensures { result.now ≡ (spec.choice_at self.now.shape choice).defaults }
     {
-        self.choices[choice as usize].defaults.as_slice()
+        self.parts.choice_defaults(choice)
     }
 
     /// Whether a choice is optional.
@@ -210,6 +199,6 @@ impl Tree {
         requires { choice < length self.now.shape.choices }
         ensures { result ≡ (spec.choice_at self.now.shape choice).optional }
     {
-        self.choices[choice as usize].optional
+        self.parts.optional(choice)
     }
 }

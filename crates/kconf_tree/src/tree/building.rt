@@ -2,7 +2,8 @@ ghost use Rattle.std.specs.Prelude.{◌≡◌, IfOk, IfErr};
 ghost use Rattle.kconf_tree.specs.Built.{HaveChoices, IsTreeOf, IsRefused};
 
 use crate::bad::TreeBad;
-use crate::limits::{Passed, past_each, past_symbols};
+use crate::limits::{Passed, past_symbols};
+use crate::parts::Parts;
 use crate::tree::Tree;
 use crate::types::Types;
 use kconf_parse::Entries;
@@ -33,13 +34,18 @@ impl Tree {
             Some(passed) => return Err(too_many(passed)),
             None => {}
         }
-        let mut tree = Tree::gathered(alloc, types, entries)?;
-        match past_each(tree.choices.as_slice(), tree.symbols.as_slice()) {
+        let parts = Parts::gathered(alloc, types, entries)?;
+        match parts.passed() {
             Some(passed) => return Err(too_many(passed)),
             None => {}
         }
-        let order = tree.find_order(alloc)?;
-        tree.order = order;
-        Ok(tree)
+        let _count = parts.symbols();
+        let links = parts.links(alloc)?;
+        let order = parts.find_order(alloc, &links)?;
+        Ok(Tree {
+            parts,
+            links,
+            order,
+        })
     }
 }

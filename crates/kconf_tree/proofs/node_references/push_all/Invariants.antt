@@ -1,6 +1,0 @@
--- The numbers so far.
-use Rattle.std.proofs.Common.{◌≡◌, ◌++◌, take}
-use Rattle.kconf_tree.proofs.node_references.push_all.Given as goal
-
-abbrev pub invariant-loop-number : goal.invariant-loop-number
-invariant-loop-number l = l.row ≡ l.fn.row ++ take l.number-index l.numbers

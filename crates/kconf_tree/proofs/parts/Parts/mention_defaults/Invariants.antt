@@ -1,0 +1,11 @@
+-- What is left, behind what is there, gives the whole.
+use Rattle.std.proofs.Common.{◌≡◌, ◌++◌, ◌<◌, drop, length, All}
+use Rattle.std.specs.List.{flat_map}
+use Rattle.kconf_tree.specs.References.{of_default}
+use Rattle.kconf_tree.proofs.parts.Parts.mention_defaults.Given as goal
+
+abbrev pub invariant-loop-default : goal.invariant-loop-default
+invariant-loop-default l = record {
+  row : l.row ++ flat_map (of_default l.self) (drop l.default-index l.defaults) ≡ l.fn.row ++ flat_map (of_default l.self) l.defaults;
+  within : All (λ k. k < length l.self.symbols) l.row;
+}

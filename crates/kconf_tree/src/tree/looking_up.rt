@@ -1,0 +1,52 @@
+ghost use Rattle.std.specs.Prelude.{◌≡◌, ◌<◌, length, All, IfSome};
+ghost use Rattle.kconf_tree.specs.Shape as spec;
+ghost use Rattle.kconf_tree.specs.Value as value;
+ghost use Rattle.kconf_tree.specs.declared.shape.Selector as one;
+
+use crate::shape::{Counts, Selector};
+use crate::tree::Tree;
+use kconf_parse::{Side, Sign};
+
+impl Tree {
+    /// Those that select a symbol, in order of declaration, each with the full condition.
+    pub fn selectors(&self, sym: u32) -> &[Selector]
+        requires { sym < length self.now.shape.symbols }
+        ensures value { result.now ≡ spec.selectors_of self.now.shape sym }
+        ensures within { All (λ (s : one.Selector). s.by < length self.now.shape.symbols) result.now }
+    {
+        self.links.selects[sym as usize].as_slice()
+    }
+
+    /// What a symbol counts as: the modules symbol as bool, a member by its choice, every other by its
+    /// own type.
+    pub fn counts_as(&self, sym: u32) -> Counts
+        requires { sym < length self.now.shape.symbols }
+        ensures { result ≡ spec.counts_as self.now.shape sym }
+    {
+        self.parts.counts_as(sym)
+    }
+
+    /// Whether a comparison compares two of the three values; every other is an outer condition.
+    pub fn compares_trits(&self, left: &Side, sign: Sign, right: &Side) -> bool
+        ensures { result ≡ value.compares_trits self.now.shape left.now sign right.now }
+    {
+        self.parts.compares_trits(left, sign, right)
+    }
+
+    /// The number of the outer condition with this text, if there is one.
+    pub fn outer_number(&self, text: &str) -> Option<u64>
+        ensures number { result ≡ spec.outer_at self.now.shape text.now }
+        ensures within { IfSome result (λ n. n < length self.now.shape.outers) }
+    {
+        self.parts.outer_number(text)
+    }
+
+    /// The number of the outer condition that is this comparison, if there is one. It is found without
+    /// memory.
+    pub fn comparison_number(&self, left: &Side, sign: Sign, right: &Side) -> Option<u64>
+        ensures number { result ≡ spec.outer_at self.now.shape (value.comparison_text left.now sign right.now) }
+        ensures within { IfSome result (λ n. n < length self.now.shape.outers) }
+    {
+        self.parts.comparison_number(left, sign, right)
+    }
+}
