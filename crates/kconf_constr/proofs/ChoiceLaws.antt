@@ -5,15 +5,15 @@ use Rattle.ut_logic.specs.declared.item.Item.{Item}
 use Rattle.ut_logic.specs.declared.item.Item.TheVariants.{SymY, ModeY}
 use Rattle.ut_logic.specs.declared.formula.Formula.{Formula}
 use Rattle.ut_logic.specs.declared.formula.Formula.TheVariants.{Is}
-use Rattle.ut_logic.specs.Fold.{any_of, not_of}
-use Rattle.ut_logic.specs.Truth.{truth, truths, all_true, any_true}
+use Rattle.ut_logic.specs.Fold.{not_of}
+use Rattle.ut_logic.specs.Truth.{truth, truths, all_true}
 use Rattle.ut_logic.proofs.FoldLaws.{truth-Is, truth-any_of, truth-not_of}
 use Rattle.kconf_tree.specs.declared.shape.Counts.{Counts}
 use Rattle.kconf_tree.specs.declared.shape.Counts.TheVariants as counts
 use Rattle.kconf_tree.specs.Shape.{counts_as, choice_at}
 use Rattle.kconf_tree.specs.Value.{Configuration}
-use Rattle.kconf_tree.specs.Properties.{choice_visibility_of, visibility_of}
-use Rattle.kconf_tree.specs.Valid.{is_y, is_n, can_be_y, allows_mode, keeps_mode, is_right_choice}
+use Rattle.kconf_tree.specs.Properties.{choice_visibility_of}
+use Rattle.kconf_tree.specs.Valid.{is_y, is_n, can_be_y, allows_mode, is_right_choice}
 use Rattle.kconf_constr.specs.Scope.{Scope}
 use Rattle.kconf_constr.specs.Stands.{configuration_of, value_as}
 use Rattle.kconf_constr.specs.ChoiceFormulas.{seen, choice_seen, mode_holds, members_hold, not_both, pairs, are_y, some_holds, choice_holds}
@@ -114,17 +114,17 @@ module _ (s : Scope) (v : Item → Bool) where
 
   pub choice_law : (i : ℕ) → AreBool (choice_at s.shape i).members → all_true (truths v (choice_holds s i)) ≡ is_right_choice s.shape c i
   choice_law i b = let ms : List ℕ = (choice_at s.shape i).members in let optional : Bool = (choice_at s.shape i).optional in
-    let mode : List Formula = mode_holds optional (choice_seen s i) (Is (ModeY i)) in
-    let per : List Formula = members_hold (seen s) (Is (ModeY i)) ms in
-    let some : List Formula = map (some_holds (seen s) (Is (ModeY i)) ms) ms in
-    all_append v (mode ++ per ++ pairs ms) some
-    ∙ (ap (λ x. x && all_true (truths v some)) (all_append v (mode ++ per) (pairs ms) ∙ ap (λ x. x && all_true (truths v (pairs ms))) (all_append v mode per))
-    ∙ rw (
-      mode_truth optional i (v (ModeY i)) (truth-Is v (ModeY i)),
-      per_truth (Is (ModeY i)) (v (ModeY i)) (truth-Is v (ModeY i)) ms b,
-      pairs_truth ms b,
-      some_truth (Is (ModeY i)) (v (ModeY i)) (truth-Is v (ModeY i)) ms b ms,
-      per_is (is_y c) (can_be_y s.shape c) (v (ModeY i)) ms,
-      some_is (is_y c) (can_be_y s.shape c) (v (ModeY i)) ms ms,
-    ) (whole_law (is_y c) (can_be_y s.shape c) ms optional (choice_visibility_of s.shape c i) (v (ModeY i))
+      let mode : List Formula = mode_holds optional (choice_seen s i) (Is (ModeY i)) in
+      let per : List Formula = members_hold (seen s) (Is (ModeY i)) ms in
+      let some : List Formula = map (some_holds (seen s) (Is (ModeY i)) ms) ms in
+      all_append v (mode ++ per ++ pairs ms) some
+      ∙ (ap (λ x. x && all_true (truths v some)) (all_append v (mode ++ per) (pairs ms) ∙ ap (λ x. x && all_true (truths v (pairs ms))) (all_append v mode per))
+      ∙ rw (
+        mode_truth optional i (v (ModeY i)) (truth-Is v (ModeY i)),
+        per_truth (Is (ModeY i)) (v (ModeY i)) (truth-Is v (ModeY i)) ms b,
+        pairs_truth ms b,
+        some_truth (Is (ModeY i)) (v (ModeY i)) (truth-Is v (ModeY i)) ms b ms,
+        per_is (is_y c) (can_be_y s.shape c) (v (ModeY i)) ms,
+        some_is (is_y c) (can_be_y s.shape c) (v (ModeY i)) ms ms,
+      ) (whole_law (is_y c) (can_be_y s.shape c) ms optional (choice_visibility_of s.shape c i) (v (ModeY i))
       ∙ ap (λ e. allows_mode optional (choice_visibility_of s.shape c i) (cond (v (ModeY i)) 2 0) && (e && (length (filter (is_y c) ms) == cond ((cond (v (ModeY i)) 2 0 == 2) && list_any (can_be_y s.shape c) ms) 1 0))) (fit_is ms b)))

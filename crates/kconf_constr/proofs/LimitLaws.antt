@@ -1,10 +1,9 @@
 -- The limits of a symbol as formulas.
-use Rattle.std.proofs.Common.{◌≡◌, ℕ, ◌-◌, ◌≤◌, ◌==◌, Bool, true, false, not, ◌&&◌, ◌||◌, cond, List, [], ◌∷◌, ◌++◌, map, refl, ap, sym, subst, ◌∙◌, min, max, rules, arith}
-use Rattle.std.proofs.lemmas.Grind.{common_steps}
+use Rattle.std.proofs.Common.{◌≡◌, ℕ, ◌≤◌, ◌==◌, Bool, true, false, not, ◌&&◌, ◌||◌, cond, List, [], ◌∷◌, ◌++◌, map, refl, ap, subst, ◌∙◌, min, arith}
 use Rattle.std.proofs.lemmas.Bool.Decides.{nat_tests}
 use Rattle.ut_logic.specs.declared.item.Item.{Item}
 use Rattle.ut_logic.specs.declared.formula.Formula.{Formula}
-use Rattle.ut_logic.specs.Fold.{all_of, any_of, not_of}
+use Rattle.ut_logic.specs.Fold.{not_of}
 use Rattle.ut_logic.specs.Truth.{truth, truths, all_true, any_true}
 use Rattle.ut_logic.proofs.FoldLaws.{truth-all_of, truth-any_of, truth-not_of}
 use Rattle.kconf_parse.specs.declared.expr.Expr.{Expr}
@@ -12,7 +11,7 @@ use Rattle.kconf_parse.specs.declared.entries.DefaultOf.{DefaultOf}
 use Rattle.kconf_tree.specs.declared.shape.Selector.{Selector}
 use Rattle.kconf_tree.specs.Shape.{symbol_at, counts_as, selectors_of}
 use Rattle.kconf_tree.specs.declared.place.Place.TheVariants.{Condition, Value}
-use Rattle.kconf_tree.specs.Value.{Configuration, value_in, own_value, least, greatest}
+use Rattle.kconf_tree.specs.Value.{Configuration, value_in, own_value, greatest}
 use Rattle.kconf_tree.specs.Properties.{visibility_of, reverse_of, default_of, first_default, selected_by}
 use Rattle.kconf_tree.proofs.Small.{on_three, at_three}
 use Rattle.kconf_constr.specs.declared.half.Half.{Half}

@@ -1,9 +1,8 @@
 -- Tests on the members of a choice, as its formulas put them and as its rules do.
-use Rattle.std.proofs.Common.{◌≡◌, ℕ, zero, suc, ◌==◌, Bool, true, false, not, ◌&&◌, ◌||◌, cond, List, [], ◌∷◌, map, filter, length, refl, ap, sym, ◌∙◌, arith}
-use Rattle.std.proofs.lemmas.Grind.{common_steps}
+use Rattle.std.proofs.Common.{◌≡◌, ℕ, suc, ◌==◌, Bool, true, false, not, ◌&&◌, ◌||◌, cond, List, [], ◌∷◌, map, filter, length, refl, ap, sym, ◌∙◌, arith}
 use Rattle.std.proofs.lemmas.Bool.Decides.{nat_tests}
 use Rattle.std.specs.List.{list_any, list_all}
-use Rattle.ut_logic.specs.Truth.{all_true, any_true}
+use Rattle.ut_logic.specs.Truth.{any_true}
 use Rattle.kconf_tree.specs.Valid.{allows_mode}
 use Rattle.kconf_tree.proofs.Small.{and_left, and_right}
 use Rattle.kconf_constr.proofs.Tables.{on_both, at_both, same_bool, same_bool_is, implies, implies_is}

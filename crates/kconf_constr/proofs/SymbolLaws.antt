@@ -1,20 +1,19 @@
 -- The formulas of a symbol are true exactly where it has one value and is right.
-use Rattle.std.proofs.Common.{◌≡◌, ℕ, ◌≤◌, ◌==◌, Bool, true, false, not, ◌&&◌, cond, List, [], ◌∷◌, ◌++◌, refl, ap, sym, ◌∙◌}
+use Rattle.std.proofs.Common.{◌≡◌, ℕ, ◌==◌, Bool, true, false, not, ◌&&◌, cond, [], ◌∷◌, refl, ◌∙◌}
 use Rattle.ut_logic.specs.declared.item.Item.{Item}
 use Rattle.ut_logic.specs.declared.item.Item.TheVariants.{SymY, SymM}
 use Rattle.ut_logic.specs.declared.formula.Formula.{Formula}
 use Rattle.ut_logic.specs.declared.formula.Formula.TheVariants.{Is}
-use Rattle.ut_logic.specs.Fold.{any_of, not_of}
+use Rattle.ut_logic.specs.Fold.{not_of}
 use Rattle.ut_logic.specs.Truth.{truth, truths, all_true, any_true}
 use Rattle.ut_logic.proofs.FoldLaws.{truth-Is, truth-any_of, truth-not_of}
 use Rattle.kconf_tree.specs.declared.shape.Counts.{Counts}
 use Rattle.kconf_tree.specs.declared.shape.Counts.TheVariants as counts
 use Rattle.kconf_tree.specs.Shape.{counts_as}
-use Rattle.kconf_tree.specs.Value.{Configuration, has_modules, stands_for, own_value}
-use Rattle.kconf_tree.specs.Properties.{visibility_of, reverse_of, default_of}
+use Rattle.kconf_tree.specs.Value.{Configuration, has_modules, stands_for}
 use Rattle.kconf_tree.specs.Right.{is_settled, is_right}
 use Rattle.kconf_constr.specs.Scope.{Scope}
-use Rattle.kconf_constr.specs.Halves.{Halves, own_halves_as, modules_formula}
+use Rattle.kconf_constr.specs.Halves.{modules_formula}
 use Rattle.kconf_constr.specs.Stands.{configuration_of, value_as, has_one_as, has_one_value}
 use Rattle.kconf_constr.specs.SymbolFormulas.{Limits, limits_of, base_holds, holds_as, free_symbol_holds}
 use Rattle.kconf_constr.proofs.Tables.{same_bool, same_bool_is}

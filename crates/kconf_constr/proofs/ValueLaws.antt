@@ -1,6 +1,5 @@
 -- The two formulas say of each configuration what the value says.
-use Rattle.std.proofs.Common.{◌≡◌, ℕ, ◌-◌, ◌≤◌, ◌==◌, Bool, true, false, not, ◌&&◌, ◌||◌, cond, List, [], ◌∷◌, map, refl, ap, sym, subst, ◌∙◌, min, max, rules, arith, Option, None, Some}
-use Rattle.std.proofs.lemmas.Grind.{common_steps}
+use Rattle.std.proofs.Common.{◌≡◌, ℕ, ◌-◌, ◌≤◌, ◌==◌, Bool, true, false, not, ◌&&◌, ◌||◌, cond, List, [], ◌∷◌, map, refl, ap, sym, subst, ◌∙◌, min, max, arith, Option, None, Some}
 use Rattle.std.proofs.lemmas.Bool.Decides.{nat_tests}
 use Rattle.ut_logic.specs.declared.item.Item.{Item}
 use Rattle.ut_logic.specs.declared.item.Item.TheVariants.{SymY, SymM, Undeclared, Outer}
@@ -9,7 +8,7 @@ use Rattle.ut_logic.specs.declared.trit.Trit.TheVariants.{N, M, Y}
 use Rattle.ut_logic.specs.Trit.{rank}
 use Rattle.ut_logic.specs.declared.formula.Formula.{Formula}
 use Rattle.ut_logic.specs.declared.formula.Formula.TheVariants.{Yes, No, Is}
-use Rattle.ut_logic.specs.Fold.{all_of, any_of, not_of}
+use Rattle.ut_logic.specs.Fold.{all_of, not_of}
 use Rattle.ut_logic.specs.Truth.{truth, truths, all_true, any_true}
 use Rattle.ut_logic.proofs.FoldLaws.{truth-Yes, truth-No, truth-Is, truth-all_of, truth-any_of, truth-not_of}
 use Rattle.kconf_parse.specs.declared.expr.Side.{Side}
@@ -22,15 +21,14 @@ use Rattle.kconf_parse.specs.declared.expr.Expr.TheViews.{roll-Expr}
 use Rattle.kconf_parse.specs.declared.expr.Expr.TheFolds.{fold-roll-Expr, map-Expr, ind-Expr}
 use Rattle.kconf_tree.specs.declared.shape.Counts.{Counts}
 use Rattle.kconf_tree.specs.declared.shape.Counts.TheVariants as counts
-use Rattle.kconf_tree.specs.Shape.{Shape, number_of, outer_at, counts_as, is_the}
+use Rattle.kconf_tree.specs.Shape.{number_of, outer_at, counts_as}
 use Rattle.kconf_tree.specs.declared.place.Place.{Place}
 use Rattle.kconf_tree.specs.declared.place.Place.TheVariants.{Condition, Value}
 use Rattle.kconf_tree.specs.Value.{Configuration, value_in, value_step, named, side_value, const_value, outer_value, compares_trits, comparison_text, least, greatest, has_modules, stands_for}
 use Rattle.kconf_tree.specs.Value as tree
-use Rattle.kconf_constr.specs.declared.half.Half.{Half}
 use Rattle.kconf_constr.specs.declared.half.Half.TheVariants.{NotN, IsY}
 use Rattle.kconf_constr.specs.Scope.{Scope, number_among}
-use Rattle.kconf_constr.specs.Halves.{Halves, both, halves, halves_step, half_of, value_halves, const_halves, own_halves_as, named_halves, free_formula, outer_formula, modules_formula, side_halves, same, compared, comparison_formula, each, some}
+use Rattle.kconf_constr.specs.Halves.{Halves, both, halves, halves_step, half_of, value_halves, const_halves, own_halves_as, named_halves, free_formula, outer_formula, modules_formula, side_halves, same, compared, each, some}
 use Rattle.kconf_constr.specs.Stands.{value_as, free_truth, configuration_of}
 
 -- the formulas h stand for the value n

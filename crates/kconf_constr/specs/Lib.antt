@@ -7,3 +7,4 @@ pub mod ChoiceFormulas
 pub mod FactsOf
 pub mod Stands
 pub mod Meaning
+pub mod Closed

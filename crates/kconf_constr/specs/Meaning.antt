@@ -1,16 +1,14 @@
 -- What the facts of a tree mean: truths of items meet them exactly where the configuration that they stand
 -- for keeps the tree's rules. This project's rule.
-use Rattle.std.specs.Prelude.{◌≡◌, ◌↔◌, ◌<◌, ℕ, Bool, true, false, List, [], All, length, Option, None, Some}
+use Rattle.std.specs.Prelude.{◌≡◌, ◌↔◌, ◌<◌, ℕ, Bool, true, false, length, Option, None, Some}
 use Rattle.ut_logic.specs.declared.item.Item.{Item}
 use Rattle.ut_logic.specs.declared.node.Node.{Node}
 use Rattle.ut_logic.specs.declared.node.Node.TheVariants.{Sym, Choice}
 use Rattle.ut_logic.specs.declared.facts.Fact.{Fact}
-use Rattle.ut_logic.specs.Facts.{Meets, MeetsAll}
-use Rattle.kconf_tree.specs.declared.shape.Counts.{Counts}
-use Rattle.kconf_tree.specs.declared.shape.Counts.TheVariants as counts
-use Rattle.kconf_tree.specs.Shape.{Shape, symbol_at, choice_at, counts_as, is_member}
-use Rattle.kconf_tree.specs.Value.{Configuration}
-use Rattle.kconf_tree.specs.Valid.{is_right_choice, KeepsRules}
+use Rattle.ut_logic.specs.Facts.{Meets}
+use Rattle.kconf_parse.specs.declared.entries.Kind.TheVariants as kind
+use Rattle.kconf_tree.specs.Shape.{Shape, symbol_at, choice_at, is_member}
+use Rattle.kconf_tree.specs.Valid.{is_right_choice}
 use Rattle.kconf_tree.specs.Right.{IsRight}
 use Rattle.kconf_constr.specs.Scope.{Scope}
 use Rattle.kconf_constr.specs.Stands.{configuration_of, has_one_value}
@@ -30,9 +28,9 @@ NodeIsRight s v n = ⊥
 abbrev pub SaysRight : Scope → Fact → Type 0
 SaysRight s fact = (v : Item → Bool) → Meets v fact ↔ NodeIsRight s v fact.node
 
--- each member of a choice counts as bool, as it does where each choice is one of bools
-abbrev pub HasBoolMembers : Shape → Type 0
-HasBoolMembers t = (i : ℕ) → i < length t.choices → All (λ j. counts_as t j ≡ counts.Bool) (choice_at t i).members
+-- each choice is one of bools
+abbrev pub HasBoolChoices : Shape → Type 0
+HasBoolChoices t = (i : ℕ) → i < length t.choices → (choice_at t i).kind ≡ kind.Bool
 
 -- each symbol that is no member has one value
 abbrev pub HaveOneValue : Shape → (Item → Bool) → Type 0

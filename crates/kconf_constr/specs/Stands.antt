@@ -1,6 +1,6 @@
 -- The configuration that truths of items stand for. A pair of items that are both true reads as y.
 -- This project's rule.
-use Rattle.std.specs.Prelude.{ℕ, List, Bool, true, false, not, ◌&&◌, Option, None, Some, if◌then◌else◌}
+use Rattle.std.specs.Prelude.{ℕ, Bool, true, false, not, ◌&&◌, Option, None, Some, if◌then◌else◌}
 use Rattle.ut_logic.specs.declared.item.Item.{Item}
 use Rattle.ut_logic.specs.declared.item.Item.TheVariants.{SymY, SymM, Undeclared, ModeY, Outer}
 use Rattle.kconf_tree.specs.declared.shape.Counts.{Counts}

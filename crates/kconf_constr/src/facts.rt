@@ -7,7 +7,8 @@ ghost use Rattle.kconf_tree.specs.Valid.{IsValid, KeepsRules};
 ghost use Rattle.kconf_constr.specs.Scope.{IsRising, whole, with_free};
 ghost use Rattle.kconf_constr.specs.FactsOf as spec;
 ghost use Rattle.kconf_constr.specs.Stands.{configuration_of};
-ghost use Rattle.kconf_constr.specs.Meaning.{HasBoolMembers, HaveOneValue, SaysRight};
+ghost use Rattle.kconf_constr.specs.Closed.{IsClosed};
+ghost use Rattle.kconf_constr.specs.Meaning.{HasBoolChoices, HaveOneValue, SaysRight};
 
 use crate::items::{own_items, with_loose};
 use crate::scope::Scope;
@@ -127,19 +128,27 @@ impl<'a> Scope<'a> {
 /// this project's rule.
 pub fn constraints(alloc: Global, tree: &Tree) -> Result<Facts, AllocError>
     ensures facts { IfOk result (λ f. f.list ≡ spec.facts_of (whole tree.now.shape)) }
-    ensures means { HasBoolMembers tree.now.shape → IfOk result (λ f. All (SaysRight (whole tree.now.shape)) f.list) }
-    ensures valid { HasBoolMembers tree.now.shape → IfOk result (λ f. (v : one.Item → Bool) → MeetsAll v f.list ↔ (HaveOneValue tree.now.shape v × IsValid tree.now.shape (configuration_of (whole tree.now.shape) v))) }
+    ensures closed { IfOk result (λ f. All (IsClosed tree.now.shape) f.list) }
+    ensures means { HasBoolChoices tree.now.shape → IfOk result (λ f. All (SaysRight (whole tree.now.shape)) f.list) }
+    ensures valid { HasBoolChoices tree.now.shape → IfOk result (λ f. (v : one.Item → Bool) → MeetsAll v f.list ↔ (HaveOneValue tree.now.shape v × IsValid tree.now.shape (configuration_of (whole tree.now.shape) v))) }
 {
+    let _order = tree.order();
     Scope::whole(tree).facts(alloc)
 }
 
 /// The same facts where each of these undeclared names, which rise by their bytes, may be y: its number in the
 /// list is that of its item. The only error is want of memory.
-pub fn free_constraints(alloc: Global, tree: &Tree, undeclared: &[Text]) -> Result<Facts, AllocError>
+pub fn free_constraints(
+    alloc: Global,
+    tree: &Tree,
+    undeclared: &[Text],
+) -> Result<Facts, AllocError>
     requires { IsRising undeclared.now }
     ensures facts { IfOk result (λ f. f.list ≡ spec.facts_of (with_free tree.now.shape undeclared.now)) }
-    ensures means { HasBoolMembers tree.now.shape → IfOk result (λ f. All (SaysRight (with_free tree.now.shape undeclared.now)) f.list) }
-    ensures valid { HasBoolMembers tree.now.shape → IfOk result (λ f. (v : one.Item → Bool) → MeetsAll v f.list ↔ (HaveOneValue tree.now.shape v × KeepsRules tree.now.shape (configuration_of (with_free tree.now.shape undeclared.now) v))) }
+    ensures closed { IfOk result (λ f. All (IsClosed tree.now.shape) f.list) }
+    ensures means { HasBoolChoices tree.now.shape → IfOk result (λ f. All (SaysRight (with_free tree.now.shape undeclared.now)) f.list) }
+    ensures valid { HasBoolChoices tree.now.shape → IfOk result (λ f. (v : one.Item → Bool) → MeetsAll v f.list ↔ (HaveOneValue tree.now.shape v × KeepsRules tree.now.shape (configuration_of (with_free tree.now.shape undeclared.now) v))) }
 {
+    let _order = tree.order();
     Scope::with_free(tree, undeclared).facts(alloc)
 }

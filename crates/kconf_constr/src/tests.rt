@@ -2,6 +2,7 @@
 
 mod building;
 mod conditions;
+mod free;
 mod kinds;
 mod names;
 mod rows;

@@ -7,7 +7,10 @@ use std::test::Fail;
 #[test]
 fn bool_symbols_hold_what_their_properties_ask(rt: HostRuntime) -> Result<(), Fail> {
     let rows = [
-        ("A bool p:y s:B:y;B bool", "yes yes yes; (!y0|y1) (!y1|y0) yes"),
+        (
+            "A bool p:y s:B:y;B bool",
+            "yes yes yes; (!y0|y1) (!y1|y0) yes",
+        ),
         (
             "C bool p:y;B bool p:C;A bool p:y s:B:y",
             "yes yes yes; (!y2|y1) (!y1|y0|y2) yes; yes yes yes",

@@ -1,4 +1,4 @@
-use Rattle.std.proofs.Common.{ap, ◌∙◌, [], Some}
+use Rattle.std.proofs.Common.{ap, ◌∙◌, []}
 use Rattle.kconf_constr.specs.Scope.{number_among}
 use Rattle.kconf_constr.proofs.Searching.{found_at, missed}
 use Rattle.kconf_constr.proofs.scope.Scope.free_number.Goals as goal
