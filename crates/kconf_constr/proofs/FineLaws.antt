@@ -1,0 +1,229 @@
+-- The formulas of expressions mention the items of the symbols that these ask for, and loose items.
+use Rattle.std.proofs.Common.{◌≡◌, ℕ, Bool, true, false, ◌||◌, cond, List, [], ◌∷◌, ◌++◌, map, refl, ap, sym, subst, ◌∙◌, Option, None, Some, inl, inr}
+use Rattle.std.proofs.lemmas.Bool.{false≢true}
+use Rattle.std.specs.List.{AllByRecursion, flat_map}
+use Rattle.std.specs.Option.{option_to_list}
+use Rattle.std.proofs.lemmas.List.Folds.{list_any-append}
+use Rattle.ut_logic.specs.declared.trit.Trit.{Trit}
+use Rattle.ut_logic.specs.declared.trit.Trit.TheVariants.{N, M, Y}
+use Rattle.ut_logic.specs.declared.item.Item.{Item}
+use Rattle.ut_logic.specs.declared.item.Item.TheVariants as item
+use Rattle.ut_logic.specs.declared.formula.Formula.{Formula}
+use Rattle.ut_logic.specs.declared.formula.Formula.TheVariants.{Yes, No, Is}
+use Rattle.ut_logic.specs.Item.{item_eq}
+use Rattle.ut_logic.specs.ItemIdentity.{item_eq-Decides}
+use Rattle.ut_logic.specs.Assign.{is_in}
+use Rattle.ut_logic.specs.Fold.{all_of, any_of, not_of}
+use Rattle.ut_logic.specs.Truth.{mentioned, together}
+use Rattle.ut_logic.proofs.MentionLaws.{mentioned-Yes, mentioned-No, mentioned-Is, mentioned-all_of, mentioned-any_of, mentioned-not_of}
+use Rattle.kconf_parse.specs.declared.expr.Side.{Side}
+use Rattle.kconf_parse.specs.declared.expr.Side.TheVariants as side
+use Rattle.kconf_parse.specs.declared.expr.Sign.{Sign}
+use Rattle.kconf_parse.specs.declared.expr.Sign.TheVariants as sign
+use Rattle.kconf_parse.specs.declared.expr.Expr.{Expr}
+use Rattle.kconf_parse.specs.declared.expr.Expr.TheOpen.{Expr-F}
+use Rattle.kconf_parse.specs.declared.expr.Expr.TheViews.{roll-Expr}
+use Rattle.kconf_parse.specs.declared.expr.Expr.TheFolds.{fold-roll-Expr, map-Expr, ind-Expr}
+use Rattle.kconf_tree.specs.declared.shape.Counts.{Counts}
+use Rattle.kconf_tree.specs.declared.shape.Counts.TheVariants as counts
+use Rattle.kconf_tree.specs.declared.place.Place.{Place}
+use Rattle.kconf_tree.specs.declared.place.Place.TheVariants.{Condition, Value}
+use Rattle.kconf_tree.specs.Shape.{number_of, outer_at, counts_as}
+use Rattle.kconf_tree.specs.Value.{compares_trits, comparison_text}
+use Rattle.kconf_tree.specs.References.{numbers_in, numbers_step, side_numbers, const_numbers}
+use Rattle.kconf_tree.proofs.Small.{or_cases}
+use Rattle.kconf_constr.specs.declared.half.Half.{Half}
+use Rattle.kconf_constr.specs.declared.half.Half.TheVariants.{NotN, IsY}
+use Rattle.kconf_constr.specs.Scope.{Scope, number_among}
+use Rattle.kconf_constr.specs.Halves.{Halves, both, halves, halves_step, half_of, value_halves, const_halves, own_halves_as, named_halves, free_formula, outer_formula, modules_formula, side_halves, same, compared}
+use Rattle.kconf_constr.proofs.Lists.{front, back}
+
+-- an item of a symbol or a choice that passes, or a loose one
+abbrev pub IsFineItem : (ℕ → Type 0) → (ℕ → Type 0) → Item → Type 0
+IsFineItem Q R (item.SymY k) = Q k
+IsFineItem Q R (item.SymM k) = Q k
+IsFineItem Q R (item.ModeY i) = R i
+IsFineItem Q R (item.Undeclared k) = Unit {0}
+IsFineItem Q R (item.Outer k) = Unit {0}
+IsFineItem Q R i = ⊥
+
+second_true : (b : Bool) → (b || true) ≡ true
+second_true true = refl
+second_true false = refl
+
+module _ (Q R : ℕ → Type 0) where
+  -- the formula mentions such items alone
+  abbrev pub Fine : Formula → Type 0
+  Fine f = (i : Item) → is_in (mentioned f) i ≡ true → IsFineItem Q R i
+
+  abbrev pub AllFine : List Formula → Type 0
+  AllFine fs = (i : Item) → is_in (together (map mentioned fs)) i ≡ true → IsFineItem Q R i
+
+  mentions_none : (f : Formula) → mentioned f ≡ [] → Fine f
+  mentions_none f e i h = absurd (false≢true (sym (ap (λ xs. is_in xs i) e) ∙ h))
+
+  pub fine_yes : Fine Yes
+  fine_yes = mentions_none Yes mentioned-Yes
+
+  pub fine_no : Fine No
+  fine_no = mentions_none No mentioned-No
+
+  pub fine_item : (x : Item) → IsFineItem Q R x → Fine (Is x)
+  fine_item x ok i h = subst (IsFineItem Q R) ((item_eq-Decides x i).0 (alone (item_eq x i) (sym (ap (λ xs. is_in xs i) (mentioned-Is x)) ∙ h))) ok
+    where
+      alone : (b : Bool) → (b || false) ≡ true → b ≡ true
+      alone true h = refl
+      alone false h = h
+
+  pub fine_nil : AllFine []
+  fine_nil i h = absurd (false≢true h)
+
+  joined_fine : (xs ys : List Item) → ((i : Item) → is_in xs i ≡ true → IsFineItem Q R i) → ((i : Item) → is_in ys i ≡ true → IsFineItem Q R i) → (i : Item) → is_in (xs ++ ys) i ≡ true → IsFineItem Q R i
+  joined_fine xs ys a b i h = elim (or_cases (is_in xs i) (is_in ys i) (sym (list_any-append (λ x. item_eq x i) xs ys) ∙ h)) [
+    | inl g ↦ a i g
+    | inr g ↦ b i g
+  ]
+
+  pub fine_cons : (f : Formula) (fs : List Formula) → Fine f → AllFine fs → AllFine (f ∷ fs)
+  fine_cons f fs a b = joined_fine (mentioned f) (together (map mentioned fs)) a b
+
+  fine_head : (f : Formula) (fs : List Formula) → AllFine (f ∷ fs) → Fine f
+  fine_head f fs a i h = a i (list_any-append (λ x. item_eq x i) (mentioned f) (together (map mentioned fs)) ∙ ap (λ b. b || is_in (together (map mentioned fs)) i) h)
+
+  fine_tail : (f : Formula) (fs : List Formula) → AllFine (f ∷ fs) → AllFine fs
+  fine_tail f fs a i h = a i (list_any-append (λ x. item_eq x i) (mentioned f) (together (map mentioned fs)) ∙ (ap (λ b. is_in (mentioned f) i || b) h ∙ second_true (is_in (mentioned f) i)))
+
+  pub fine_append : (fs gs : List Formula) → AllFine fs → AllFine gs → AllFine (fs ++ gs)
+  fine_append [] gs a b = b
+  fine_append (f ∷ fs) gs a b = fine_cons f (fs ++ gs) (fine_head f fs a) (fine_append fs gs (fine_tail f fs a) b)
+
+  pub fine_all : (fs : List Formula) → AllFine fs → Fine (all_of fs)
+  fine_all fs a i h = a i (mentioned-all_of fs i h)
+
+  pub fine_any : (fs : List Formula) → AllFine fs → Fine (any_of fs)
+  fine_any fs a i h = a i (mentioned-any_of fs i h)
+
+  pub fine_not : (f : Formula) → Fine f → Fine (not_of f)
+  fine_not f a i h = a i (sym (ap (λ xs. is_in xs i) (mentioned-not_of f)) ∙ h)
+
+  pub fine_one : (f : Formula) → Fine f → AllFine (f ∷ [])
+  fine_one f a = fine_cons f [] a fine_nil
+
+  pub fine_two : (f g : Formula) → Fine f → Fine g → AllFine (f ∷ g ∷ [])
+  fine_two f g a b = fine_cons f (g ∷ []) a (fine_one g b)
+
+  -- both formulas
+  pub record BothFine (h : Halves) : Type 0 where
+    pub not_n : Fine h.not_n
+    pub is_y : Fine h.is_y
+
+  pub fine_half : (h : Half) (a : Halves) → BothFine a → Fine (half_of h a)
+  fine_half NotN a b = b.not_n
+  fine_half IsY a b = b.is_y
+
+  pub fine_both : (f : Formula) → Fine f → BothFine (both f)
+  fine_both f a = record { not_n = a; is_y = a }
+
+  both_no : BothFine (both No)
+  both_no = fine_both No fine_no
+
+  both_yes : BothFine (both Yes)
+  both_yes = fine_both Yes fine_yes
+
+  -- ---- names and constants
+
+  pub own_fine : (kind : Counts) (k : ℕ) → Q k → BothFine (own_halves_as kind k)
+  own_fine counts.Bool k q = fine_both (Is (item.SymY k)) (fine_item (item.SymY k) q)
+  own_fine counts.Tristate k q = record {
+    not_n = fine_any (Is (item.SymY k) ∷ Is (item.SymM k) ∷ []) (fine_two (Is (item.SymY k)) (Is (item.SymM k)) (fine_item (item.SymY k) q) (fine_item (item.SymM k) q));
+    is_y = fine_item (item.SymY k) q;
+  }
+  own_fine counts.Neither k q = both_no
+
+  free_fine : (o : Option ℕ) → Fine (free_formula o)
+  free_fine None = fine_no
+  free_fine (Some k) = fine_item (item.Undeclared k) tt
+
+  outer_fine : (o : Option ℕ) → Fine (outer_formula o)
+  outer_fine None = fine_no
+  outer_fine (Some k) = fine_item (item.Outer k) tt
+
+  pub modules_fine : (o : Option ℕ) → AllByRecursion Q (option_to_list o) → Fine (modules_formula o)
+  modules_fine None h = fine_no
+  modules_fine (Some k) h = fine_item (item.SymY k) h.0
+
+  value_fine : (x : Trit) → BothFine (value_halves x)
+  value_fine N = both_no
+  value_fine M = record { not_n = fine_yes; is_y = fine_no }
+  value_fine Y = both_yes
+
+  same_fine : (a b : Halves) → BothFine a → BothFine b → Fine (same a b)
+  same_fine a b p q = let y : Formula = all_of (a.is_y ∷ b.is_y ∷ []) in let n : Formula = all_of (not_of a.not_n ∷ not_of b.not_n ∷ []) in
+      let m : Formula = all_of (a.not_n ∷ not_of a.is_y ∷ b.not_n ∷ not_of b.is_y ∷ []) in
+      fine_any (y ∷ n ∷ m ∷ []) (fine_cons y (n ∷ m ∷ []) (fine_all (a.is_y ∷ b.is_y ∷ []) (fine_two a.is_y b.is_y p.is_y q.is_y))
+      (fine_two n m (fine_all (not_of a.not_n ∷ not_of b.not_n ∷ []) (fine_two (not_of a.not_n) (not_of b.not_n) (fine_not a.not_n p.not_n) (fine_not b.not_n q.not_n)))
+      (fine_all (a.not_n ∷ not_of a.is_y ∷ b.not_n ∷ not_of b.is_y ∷ []) (fine_cons a.not_n (not_of a.is_y ∷ b.not_n ∷ not_of b.is_y ∷ []) p.not_n
+      (fine_cons (not_of a.is_y) (b.not_n ∷ not_of b.is_y ∷ []) (fine_not a.is_y p.is_y) (fine_two b.not_n (not_of b.is_y) q.not_n (fine_not b.is_y q.is_y)))))))
+
+  compared_fine : (g : Sign) (f : Formula) → Fine f → Fine (compared g f)
+  compared_fine sign.Same f a = a
+  compared_fine sign.Differ f a = fine_not f a
+  compared_fine sign.Less f a = fine_not f a
+  compared_fine sign.More f a = fine_not f a
+  compared_fine sign.LessSame f a = fine_not f a
+  compared_fine sign.MoreSame f a = fine_not f a
+
+  -- ---- expressions
+
+  module _ (s : Scope) where
+    name_fine : (name : List ℕ) (o : Option ℕ) → AllByRecursion Q (option_to_list o) → BothFine (named_halves s name o)
+    name_fine name None h = fine_both (free_formula (number_among s.free name)) (free_fine (number_among s.free name))
+    name_fine name (Some k) h = own_fine (counts_as s.shape k) k h.0
+
+    const_fine : (p : Place) (x : Trit) → AllByRecursion Q (const_numbers s.shape p x) → BothFine (const_halves s p x)
+    const_fine Value x h = value_fine x
+    const_fine Condition N h = both_no
+    const_fine Condition M h = record { not_n = modules_fine s.shape.modules h; is_y = fine_no }
+    const_fine Condition Y h = both_yes
+
+    side_fine : (d : Side) → AllByRecursion Q (side_numbers s.shape d) → BothFine (side_halves s d)
+    side_fine (side.Const x) h = value_fine x
+    side_fine (side.Name name) h = name_fine name (number_of s.shape name) h
+    side_fine (side.Literal text) h = both_no
+    side_fine (side.Quoted text) h = both_no
+
+    compare_fine : (l r : Side) (g : Sign) (b : Bool) → AllByRecursion Q (cond b (side_numbers s.shape l ++ side_numbers s.shape r) []) → Fine (cond b (compared g (same (side_halves s l) (side_halves s r))) (outer_formula (outer_at s.shape (comparison_text l g r))))
+    compare_fine l r g true h = compared_fine g (same (side_halves s l) (side_halves s r)) (same_fine (side_halves s l) (side_halves s r)
+        (side_fine l (front Q (side_numbers s.shape l) (side_numbers s.shape r) h)) (side_fine r (back Q (side_numbers s.shape l) (side_numbers s.shape r) h)))
+    compare_fine l r g false h = outer_fine (outer_at s.shape (comparison_text l g r))
+
+    module _ (p : Place) where
+      abbrev pub IsFine : Expr → Type 0
+      IsFine e = AllByRecursion Q (numbers_in s.shape p e) → BothFine (halves s p e)
+
+      abbrev Each : Type 0
+      Each = (e : Expr) × IsFine e
+
+      lists_fine : (h : Half) (es : List Each) → AllByRecursion Q (flat_map (λ ks. ks) (map (numbers_in s.shape p) (map (λ e. e.0) es))) → AllFine (map (half_of h) (map (halves s p) (map (λ e. e.0) es)))
+      lists_fine h [] a = fine_nil
+      lists_fine h (e ∷ es) a = fine_cons (half_of h (halves s p e.0)) (map (half_of h) (map (halves s p) (map (λ e. e.0) es)))
+          (fine_half h (halves s p e.0) (e.1 (front Q (numbers_in s.shape p e.0) (flat_map (λ ks. ks) (map (numbers_in s.shape p) (map (λ e. e.0) es))) a)))
+          (lists_fine h es (back Q (numbers_in s.shape p e.0) (flat_map (λ ks. ks) (map (numbers_in s.shape p) (map (λ e. e.0) es))) a))
+
+      abbrev StepFine : Expr-F Expr → Type 0
+      StepFine z = AllByRecursion Q (numbers_step s.shape p (map-Expr Expr (List ℕ) (numbers_in s.shape p) z)) → BothFine (halves_step s p (map-Expr Expr Halves (halves s p) z))
+
+      step : (y : Expr-F Each) → StepFine (map-Expr Each Expr (λ e. e.0) y)
+      step (Expr-F.Const x) a = const_fine p x a
+      step (Expr-F.Name name) a = name_fine name (number_of s.shape name) a
+      step (Expr-F.Outer text) a = fine_both (outer_formula (outer_at s.shape text)) (outer_fine (outer_at s.shape text))
+      step (Expr-F.Compare left g right) a = fine_both (cond (compares_trits s.shape left g right) (compared g (same (side_halves s left) (side_halves s right))) (outer_formula (outer_at s.shape (comparison_text left g right)))) (compare_fine left right g (compares_trits s.shape left g right) a)
+      step (Expr-F.Neg e) a = let b = e.1 a in record { not_n = fine_not (halves s p e.0).is_y b.is_y; is_y = fine_not (halves s p e.0).not_n b.not_n }
+      step (Expr-F.And es) a = record { not_n = fine_all (map (half_of NotN) (map (halves s p) (map (λ e. e.0) es))) (lists_fine NotN es a); is_y = fine_all (map (half_of IsY) (map (halves s p) (map (λ e. e.0) es))) (lists_fine IsY es a) }
+      step (Expr-F.Or es) a = record { not_n = fine_any (map (half_of NotN) (map (halves s p) (map (λ e. e.0) es))) (lists_fine NotN es a); is_y = fine_any (map (half_of IsY) (map (halves s p) (map (λ e. e.0) es))) (lists_fine IsY es a) }
+
+      rolled : (x : Expr-F Expr) → StepFine x → IsFine (roll-Expr x)
+      rolled x h = rw (fold-roll-Expr Halves (halves_step s p) x, fold-roll-Expr (List ℕ) (numbers_step s.shape p) x) h
+
+      pub expr_fine : (e : Expr) → IsFine e
+      expr_fine = ind-Expr IsFine (λ x y is. rolled x (subst StepFine is (step y)))

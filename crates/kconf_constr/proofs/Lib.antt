@@ -1,0 +1,13 @@
+mod Tables
+mod Lists
+mod Searching
+mod ValueLaws
+mod LimitLaws
+mod SymbolLaws
+mod MemberTests
+mod ChoiceLaws
+mod EachFact
+mod ValidLaws
+mod FineLaws
+mod HeldFine
+mod ClosedLaws
