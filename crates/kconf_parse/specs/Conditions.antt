@@ -1,5 +1,5 @@
 -- What the readers of conditions promise each other: full conditions by the members of a place's conditions.
-use Rattle.std.specs.Prelude.{ℕ, List, ◌++◌}
+use Rattle.std.specs.Prelude.{List, ◌++◌}
 use Rattle.kconf_parse.specs.declared.entries.DefaultOf.{DefaultOf}
 use Rattle.kconf_parse.specs.declared.entries.SelectOf.{SelectOf}
 use Rattle.kconf_parse.specs.declared.expr.Expr.{Expr}

@@ -1,7 +1,7 @@
 -- What the statements of a text say one after another: the entries so far, the open menus, ifs and choices, and what
 -- is known of each symbol. Rule: Linux kconfig-language, "Menu structure" and "Menu entries"; what a choice takes is
 -- this project's.
-use Rattle.std.specs.Prelude.{ℕ, suc, ◌-◌, ◌<◌, Bool, true, false, not, ◌==◌, ◌&&◌, ◌||◌, nat_lt, length, take, map, ◌++◌, slice_get, Option, None, Some, option_map, option_to_list, unwrap_or, Result, Ok, Err, List, [], ◌∷◌, if◌then◌else◌}
+use Rattle.std.specs.Prelude.{ℕ, ◌-◌, Bool, true, false, not, ◌==◌, ◌&&◌, nat_lt, length, take, map, ◌++◌, slice_get, Option, None, Some, option_map, option_to_list, unwrap_or, Result, Ok, Err, List, [], ◌∷◌, if◌then◌else◌}
 use Rattle.std.specs.Option.{is_some}
 use Rattle.std.specs.List.{list_any}
 use Rattle.std.specs.Map.{lookup}

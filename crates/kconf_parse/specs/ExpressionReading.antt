@@ -1,5 +1,5 @@
 -- What the readers of expressions promise each other.
-use Rattle.std.specs.Prelude.{◌≡◌, ℕ, ◌<◌, ◌≤◌, Bool, true, false, drop, Option, None, Some, List, [], ◌∷◌, if◌then◌else◌}
+use Rattle.std.specs.Prelude.{◌≡◌, ℕ, ◌<◌, ◌≤◌, Bool, drop, Option, None, Some, List, if◌then◌else◌}
 use Rattle.kconf_parse.specs.declared.expr.Expr.{Expr}
 use Rattle.kconf_parse.specs.declared.line_words.LineWord.{LineWord}
 use Rattle.kconf_parse.specs.declared.roles.Role.{Role}

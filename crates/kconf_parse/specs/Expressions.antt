@@ -1,7 +1,7 @@
 -- The expressions of a list of words. From the tightest: a symbol; a comparison of two words; parentheses; `!`;
 -- `&&`; `||`. Rule: Linux kconfig-language, "Menu dependencies"; what stands for a word that is no name, and the
 -- text of an outer condition, are this project's.
-use Rattle.std.specs.Prelude.{ℕ, suc, zero, ◌+◌, ◌*◌, Bool, true, false, not, ◌&&◌, ◌||◌, bytes_eq, codes, length, drop, max, ◌++◌, Option, None, Some, List, [], ◌∷◌, if◌then◌else◌}
+use Rattle.std.specs.Prelude.{ℕ, suc, zero, ◌+◌, ◌*◌, Bool, true, false, ◌&&◌, ◌||◌, bytes_eq, codes, length, drop, max, ◌++◌, Option, None, Some, List, [], ◌∷◌, if◌then◌else◌}
 use Rattle.ut_logic.specs.declared.trit.Trit.{Trit}
 use Rattle.ut_logic.specs.declared.trit.Trit.TheVariants.{N}
 use Rattle.ut_logic.specs.Escapes.{escaped}

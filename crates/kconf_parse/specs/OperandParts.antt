@@ -1,5 +1,5 @@
 -- What the readers of operands promise each other.
-use Rattle.std.specs.Prelude.{ℕ, Bool, true, false, not, ◌++◌, List, [], ◌∷◌}
+use Rattle.std.specs.Prelude.{ℕ, Bool, false, not, ◌++◌, List, ◌∷◌}
 use Rattle.std.specs.Option.{is_some}
 use Rattle.ut_logic.specs.Escapes.{escaped}
 use Rattle.ut_logic.specs.declared.trit.Trit.{Trit}

@@ -1,7 +1,7 @@
 -- What the words of a line say, or the first fault among them: a fault names the first place from the left at which
 -- the line cannot go on. Rule: Linux kconfig-language, "Menu entries" and "Menu attributes"; the kinds of faults and
 -- their order are this project's.
-use Rattle.std.specs.Prelude.{ℕ, suc, Bool, true, false, not, ◌==◌, ◌&&◌, ◌||◌, nat_le, codes, length, Option, None, Some, option_and_then, Result, Ok, Err, List, [], ◌∷◌, if◌then◌else◌}
+use Rattle.std.specs.Prelude.{ℕ, Bool, true, false, not, ◌==◌, ◌&&◌, ◌||◌, nat_le, codes, length, Option, None, Some, option_and_then, Result, Ok, Err, List, [], ◌∷◌, if◌then◌else◌}
 use Rattle.std.specs.Str.{is_utf8}
 use Rattle.ut_base.specs.Names.{beside}
 use Rattle.ut_base.specs.declared.limits.Limit.TheVariants as limit
@@ -25,7 +25,7 @@ use Rattle.kconf_parse.specs.declared.line_words.Form.TheVariants as form
 use Rattle.kconf_parse.specs.declared.line_words.LineWord.{LineWord}
 use Rattle.kconf_parse.specs.declared.statement.Statement.{Statement}
 use Rattle.kconf_parse.specs.declared.statement.Statement.TheVariants as says
-use Rattle.kconf_parse.specs.Keywords.{is_word, begins_with_word, first_words, is_taken, of_choice}
+use Rattle.kconf_parse.specs.Keywords.{is_word, first_words, is_taken, of_choice}
 use Rattle.kconf_parse.specs.WordKinds.{text_of, is_name, is_literal}
 use Rattle.kconf_parse.specs.Expressions.{Parsed, expression_at}
 

@@ -1,11 +1,10 @@
 -- What the readers of texts promise each other: reading goes on from what is left of the open texts.
-use Rattle.std.specs.Prelude.{◌≡◌, ◌<◌, ◌≤◌, ◌-◌, ◌⊎◌, ℕ, length, ◌++◌, reverse, Option, None, Some, Result, Ok, Err, List, [], ◌∷◌}
+use Rattle.std.specs.Prelude.{◌≡◌, ◌<◌, ◌≤◌, ◌-◌, ◌⊎◌, ℕ, length, Option, None, Some, Result, Ok, Err, List, [], ◌∷◌}
 use Rattle.ut_base.specs.Outside.{Held}
 use Rattle.kconf_parse.specs.declared.bad.KconfBad.{KconfBad}
 use Rattle.kconf_parse.specs.declared.bad.KconfBad.TheVariants as refusal
 use Rattle.kconf_parse.specs.declared.entries.Var.{Var}
 use Rattle.kconf_parse.specs.declared.line_bad.LineBad.{LineBad}
-use Rattle.kconf_parse.specs.declared.line_bad.LineBad.TheVariants as bad
 use Rattle.kconf_parse.specs.declared.follows.Follows.{Follows}
 use Rattle.kconf_parse.specs.declared.open_text.TextStop.{TextStop}
 use Rattle.kconf_parse.specs.declared.open_text.TextStop.TheVariants as stop

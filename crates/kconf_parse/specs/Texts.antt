@@ -1,7 +1,7 @@
 -- The entries of Kconfig texts, or the first refusal in reading order: the lines of the root text one after another,
 -- with each sourced text in the place of its `source` line. Rule: Linux kconfig-language, "Menu entries"; the limits
 -- and what is refused first are this project's.
-use Rattle.std.specs.Prelude.{ℕ, suc, zero, ◌+◌, ◌-◌, ◌<◌, Bool, nat_lt, length, drop, slice_get, Option, None, Some, Result, Ok, Err, List, [], ◌∷◌, if◌then◌else◌}
+use Rattle.std.specs.Prelude.{ℕ, suc, zero, ◌+◌, ◌-◌, nat_lt, length, drop, Option, None, Some, Result, Ok, Err, List, [], ◌∷◌, if◌then◌else◌}
 use Rattle.std.specs.FinMap.{get}
 use Rattle.ut_base.specs.Outside.{Held}
 use Rattle.ut_base.specs.declared.limits.Limit.TheVariants as limit
@@ -15,7 +15,6 @@ use Rattle.kconf_parse.specs.declared.line_words.WordsBad.TheVariants as words
 use Rattle.kconf_parse.specs.declared.line_words.LineWord.{LineWord}
 use Rattle.kconf_parse.specs.declared.entries.Entries.{Entries}
 use Rattle.kconf_parse.specs.declared.entries.Var.{Var}
-use Rattle.kconf_parse.specs.declared.entry_lines.Opener.{Opener}
 use Rattle.kconf_parse.specs.declared.follows.Follows.{Follows}
 use Rattle.kconf_parse.specs.declared.follows.Follows.TheVariants as next
 use Rattle.kconf_parse.specs.declared.statement.Statement.{Statement}

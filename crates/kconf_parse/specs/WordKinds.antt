@@ -1,6 +1,6 @@
 -- What a word is: a constant, a name or a literal. The constants y, m and n may be quoted, and are never names.
 -- Rule: Linux kconfig-language, "Menu dependencies"; what counts as a literal is this project's.
-use Rattle.std.specs.Prelude.{ℕ, Bool, true, false, not, ◌==◌, ◌&&◌, ◌||◌, nat_le, bytes_eq, codes, length, drop, Option, None, Some, List, [], ◌∷◌, if◌then◌else◌}
+use Rattle.std.specs.Prelude.{ℕ, Bool, true, false, not, ◌&&◌, ◌||◌, nat_le, bytes_eq, codes, drop, Option, None, Some, List, [], ◌∷◌, if◌then◌else◌}
 use Rattle.std.specs.Option.{is_some}
 use Rattle.std.specs.List.{list_all, starts_with}
 use Rattle.std.specs.Prelude.{nat_eq}
@@ -8,7 +8,7 @@ use Rattle.ut_logic.specs.declared.trit.Trit.{Trit}
 use Rattle.ut_logic.specs.declared.trit.Trit.TheVariants.{N, M, Y}
 use Rattle.ut_logic.specs.Escapes.{escaped}
 use Rattle.kconf_parse.specs.declared.line_words.Form.{Form}
-use Rattle.kconf_parse.specs.declared.line_words.Form.TheVariants.{Bare, Quoted, Sign}
+use Rattle.kconf_parse.specs.declared.line_words.Form.TheVariants.{Bare}
 use Rattle.kconf_parse.specs.declared.line_words.LineWord.{LineWord}
 use Rattle.kconf_parse.specs.FirstForm.{is_name_byte}
 

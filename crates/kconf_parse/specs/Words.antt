@@ -1,6 +1,6 @@
 -- The words of a logical line: unquoted words, quoted words and signs, with the values of macros put in; and the
 -- lines without effect. Rule: Linux kconfig-language; how a word without its end is refused is this project's.
-use Rattle.std.specs.Prelude.{ℕ, suc, zero, ◌+◌, ◌-◌, Bool, true, false, not, ◌==◌, ◌&&◌, ◌||◌, nat_le, nat_lt, nat_eq, codes, length, take, drop, ◌++◌, Option, None, Some, Result, Ok, Err, List, [], ◌∷◌, if◌then◌else◌}
+use Rattle.std.specs.Prelude.{ℕ, suc, zero, ◌+◌, ◌-◌, Bool, true, false, not, ◌==◌, ◌&&◌, ◌||◌, nat_lt, nat_eq, codes, length, take, drop, ◌++◌, Option, None, Some, Result, Ok, Err, List, [], ◌∷◌, if◌then◌else◌}
 use Rattle.std.specs.Option.{option_map}
 use Rattle.std.specs.List.{prefix_len, starts_with}
 use Rattle.kconf_parse.specs.declared.entries.Var.{Var}

@@ -1,7 +1,8 @@
 //! Kconfig texts.
 //!
-//! In goes the text of one root file, out come its entries in order, whose conditions hold the inherited
-//! ones, or the first bad line. The rules are those of the Linux document kconfig-language.
+//! In goes the name of a root text, out come the entries of it and of the texts that it sources, in order, whose
+//! conditions hold the inherited ones, or the first bad line in reading order. The rules are those of the Linux
+//! document kconfig-language.
 //!
 //! A contract sees a text as its bytes and an entry with its expressions as plain data.
 #![tactic(auto)]
