@@ -8,7 +8,6 @@ ghost use Rattle.cpp_blocks.specs.Mentions.{names_in};
 
 use crate::blocks::Blocks;
 use crate::pieces::PieceOf;
-use crate::source::SourceOf;
 use crate::turns::Turns;
 use cpp_read::Cond;
 use std::alloc::{AllocError, Global};
@@ -22,28 +21,25 @@ fn name_number(blocks: &Blocks, name: &Text) -> Result<u32, AllocError>
 }
 
 /// A macro is defined behind so many of its lines.
-pub fn defined_item(source: SourceOf<'_>, name: &Text, turn: u32) -> Result<Item, AllocError>
-    ensures { IfOk result (λ i. i ≡ spec.defined_item (spec.source_of source.file source.blocks.now) name.now turn) }
+pub fn defined_item(file: u32, blocks: &Blocks, name: &Text, turn: u32) -> Result<Item, AllocError>
+    ensures { IfOk result (λ i. i ≡ spec.defined_item (spec.source_of file blocks.now) name.now turn) }
 {
-    let SourceOf { file, blocks } = source;
     let name = name_number(blocks, name)?;
     Ok(Item::StateD { file, name, turn })
 }
 
 /// A macro is defined and true behind so many of its lines.
-pub fn true_item(source: SourceOf<'_>, name: &Text, turn: u32) -> Result<Item, AllocError>
-    ensures { IfOk result (λ i. i ≡ spec.true_item (spec.source_of source.file source.blocks.now) name.now turn) }
+pub fn true_item(file: u32, blocks: &Blocks, name: &Text, turn: u32) -> Result<Item, AllocError>
+    ensures { IfOk result (λ i. i ≡ spec.true_item (spec.source_of file blocks.now) name.now turn) }
 {
-    let SourceOf { file, blocks } = source;
     let name = name_number(blocks, name)?;
     Ok(Item::StateT { file, name, turn })
 }
 
 /// The state of a macro behind so many of its lines.
-pub fn state_node(source: SourceOf<'_>, name: &Text, turn: u32) -> Result<Node, AllocError>
-    ensures { IfOk result (λ n. n ≡ spec.state_node (spec.source_of source.file source.blocks.now) name.now turn) }
+pub fn state_node(file: u32, blocks: &Blocks, name: &Text, turn: u32) -> Result<Node, AllocError>
+    ensures { IfOk result (λ n. n ≡ spec.state_node (spec.source_of file blocks.now) name.now turn) }
 {
-    let SourceOf { file, blocks } = source;
     let name = name_number(blocks, name)?;
     Ok(Node::State { file, name, turn })
 }
@@ -51,48 +47,47 @@ pub fn state_node(source: SourceOf<'_>, name: &Text, turn: u32) -> Result<Node, 
 /// The item of a piece there.
 fn piece_item(
     alloc: Global,
-    source: SourceOf<'_>,
+    file: u32,
+    blocks: &Blocks,
     turns: &Turns,
     text: &Text,
 ) -> Result<Item, AllocError>
-    ensures { IfOk result (λ i. i ≡ Item.Piece source.file (spec.piece_in (spec.source_of source.file source.blocks.now) text.now ((kept_turns turns.now).piece text.now))) }
+    ensures { IfOk result (λ i. i ≡ Item.Piece file (spec.piece_in (spec.source_of file blocks.now) text.now ((kept_turns turns.now).piece text.now))) }
 {
     let turn = turns.of_piece(alloc, text)?;
     let text = text.copy(alloc)?;
-    let number = source.blocks.piece_number(&PieceOf { text, turn });
+    let number = blocks.piece_number(&PieceOf { text, turn });
     let piece = u32::try_from(number).map_err(|_| AllocError)?;
-    Ok(Item::Piece {
-        file: source.file,
-        piece,
-    })
+    Ok(Item::Piece { file, piece })
 }
 
 /// The formula of a condition there.
 #[cycle(formulas)]
 pub fn formula(
     alloc: Global,
-    source: SourceOf<'_>,
+    file: u32,
+    blocks: &Blocks,
     turns: &Turns,
     cond: &Cond,
 ) -> Result<Formula, AllocError>
-    ensures { IfOk result (λ f. f ≡ spec.formula_of (spec.source_of source.file source.blocks.now) (kept_turns turns.now) cond.now) }
+    ensures { IfOk result (λ f. f ≡ spec.formula_of (spec.source_of file blocks.now) (kept_turns turns.now) cond.now) }
 {
     match cond {
         Cond::Const(true) => Ok(Formula::Yes),
         Cond::Const(false) => Ok(Formula::No),
-        Cond::Defined(name) => Ok(Formula::Is(defined_item(source, name, turns.of(name))?)),
-        Cond::Plain(name) => Ok(Formula::Is(true_item(source, name, turns.of(name))?)),
-        Cond::Piece(text) => Ok(Formula::Is(piece_item(alloc, source, turns, text)?)),
+        Cond::Defined(name) => Ok(Formula::Is(defined_item(file, blocks, name, turns.of(name))?)),
+        Cond::Plain(name) => Ok(Formula::Is(true_item(file, blocks, name, turns.of(name))?)),
+        Cond::Piece(text) => Ok(Formula::Is(piece_item(alloc, file, blocks, turns, text)?)),
         Cond::Neg(inner) => {
-            let inner = formula(alloc, source, turns, inner.get())?;
+            let inner = formula(alloc, file, blocks, turns, inner.get())?;
             not_of(alloc, inner)
         }
         Cond::AllOf(list) => {
-            let all = formula_each(alloc, source, turns, list.as_slice())?;
+            let all = formula_each(alloc, file, blocks, turns, list.as_slice())?;
             Ok(all_of(all))
         }
         Cond::AnyOf(list) => {
-            let all = formula_each(alloc, source, turns, list.as_slice())?;
+            let all = formula_each(alloc, file, blocks, turns, list.as_slice())?;
             Ok(any_of(all))
         }
     }
@@ -102,65 +97,69 @@ pub fn formula(
 #[cycle(formulas)]
 fn formula_each(
     alloc: Global,
-    source: SourceOf<'_>,
+    file: u32,
+    blocks: &Blocks,
     turns: &Turns,
     list: &[Cond],
 ) -> Result<Vec<Formula>, AllocError>
-    ensures { IfOk result (λ fs. fs.items ≡ map (spec.formula_of (spec.source_of source.file source.blocks.now) (kept_turns turns.now)) list.now) }
+    ensures { IfOk result (λ fs. fs.items ≡ map (spec.formula_of (spec.source_of file blocks.now) (kept_turns turns.now)) list.now) }
 {
     let mut all = Vec::with_capacity(alloc, list.len())?;
     for part in list {
-        all.push(formula(alloc, source, turns, part)?)?;
+        all.push(formula(alloc, file, blocks, turns, part)?)?;
     }
     Ok(all)
 }
 
 /// Puts the state of a name there behind the others.
 fn add_state(
-    source: SourceOf<'_>,
+    file: u32,
+    blocks: &Blocks,
     turns: &Turns,
     name: &Text,
     nodes: &mut Vec<Node>,
 ) -> Result<(), AllocError>
-    ensures { OnOk result (nodes.new.items ≡ nodes.old.items ++ spec.state_node (spec.source_of source.file source.blocks.now) name.now ((kept_turns turns.now).name name.now) ∷ []) }
+    ensures { OnOk result (nodes.new.items ≡ nodes.old.items ++ spec.state_node (spec.source_of file blocks.now) name.now ((kept_turns turns.now).name name.now) ∷ []) }
 {
-    nodes.push(state_node(source, name, turns.of(name))?)?;
+    nodes.push(state_node(file, blocks, name, turns.of(name))?)?;
     Ok(())
 }
 
 /// Puts the states that a condition refers to there behind the others.
 #[cycle(states)]
 pub fn add_states(
-    source: SourceOf<'_>,
+    file: u32,
+    blocks: &Blocks,
     turns: &Turns,
     cond: &Cond,
     nodes: &mut Vec<Node>,
 ) -> Result<(), AllocError>
-    ensures { OnOk result (nodes.new.items ≡ nodes.old.items ++ spec.states_in (spec.source_of source.file source.blocks.now) (kept_turns turns.now) cond.now) }
+    ensures { OnOk result (nodes.new.items ≡ nodes.old.items ++ spec.states_in (spec.source_of file blocks.now) (kept_turns turns.now) cond.now) }
 {
     match cond {
         Cond::Const(_) => Ok(()),
-        Cond::Defined(name) => add_state(source, turns, name, nodes),
-        Cond::Plain(name) => add_state(source, turns, name, nodes),
+        Cond::Defined(name) => add_state(file, blocks, turns, name, nodes),
+        Cond::Plain(name) => add_state(file, blocks, turns, name, nodes),
         Cond::Piece(_) => Ok(()),
-        Cond::Neg(inner) => add_states(source, turns, inner.get(), nodes),
-        Cond::AllOf(list) => add_states_each(source, turns, list.as_slice(), nodes),
-        Cond::AnyOf(list) => add_states_each(source, turns, list.as_slice(), nodes),
+        Cond::Neg(inner) => add_states(file, blocks, turns, inner.get(), nodes),
+        Cond::AllOf(list) => add_states_each(file, blocks, turns, list.as_slice(), nodes),
+        Cond::AnyOf(list) => add_states_each(file, blocks, turns, list.as_slice(), nodes),
     }
 }
 
 /// Puts the states that several conditions refer to there behind the others.
 #[cycle(states)]
 fn add_states_each(
-    source: SourceOf<'_>,
+    file: u32,
+    blocks: &Blocks,
     turns: &Turns,
     list: &[Cond],
     nodes: &mut Vec<Node>,
 ) -> Result<(), AllocError>
-    ensures { OnOk result (nodes.new.items ≡ nodes.old.items ++ map (λ name. spec.state_node (spec.source_of source.file source.blocks.now) name ((kept_turns turns.now).name name)) (flat_map (λ found. found) (map names_in list.now))) }
+    ensures { OnOk result (nodes.new.items ≡ nodes.old.items ++ map (λ name. spec.state_node (spec.source_of file blocks.now) name ((kept_turns turns.now).name name)) (flat_map (λ found. found) (map names_in list.now))) }
 {
     for part in list {
-        add_states(source, turns, part, nodes)?;
+        add_states(file, blocks, turns, part, nodes)?;
     }
     Ok(())
 }

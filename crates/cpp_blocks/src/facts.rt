@@ -6,11 +6,11 @@ ghost use Rattle.ut_logic.specs.Fold as fold;
 ghost use Rattle.cpp_blocks.specs.Steps as spec;
 ghost use Rattle.cpp_blocks.specs.Formulas.{source_of};
 
+use crate::blocks::Blocks;
 use crate::conditions::{defined_item, state_node, true_item};
-use crate::source::{MacroLine, SourceOf};
 use cpp_read::Gives;
 use std::alloc::{AllocError, Global};
-use ut_logic::{Definition, Fact, Formula, Item, Node, Sequence, all_of, any_of, not_of};
+use ut_logic::{Definition, Fact, Formula, Item, Node, Sequence, Text, all_of, any_of, not_of};
 
 /// The block is on.
 fn on(file: u32, block: u32) -> Formula
@@ -164,21 +164,23 @@ pub fn group_fact(
 /// The fact of a macro's state behind a line of it in a block, where it was in the state of this turn before.
 fn state_fact(
     alloc: Global,
-    source: SourceOf<'_>,
-    at: MacroLine<'_>,
+    file: u32,
+    blocks: &Blocks,
+    name: &Text,
+    turn: u32,
+    block: u32,
     d: Formula,
     t: Formula,
     more: &[Item],
 ) -> Result<Fact, AllocError>
-    ensures { IfOk result (λ fact. fact ≡ spec.state_fact (source_of source.file source.blocks.now) at.name.now at.turn at.block d t more.now) }
+    ensures { IfOk result (λ fact. fact ≡ spec.state_fact (source_of file blocks.now) name.now turn block d t more.now) }
 {
-    let MacroLine { name, turn, block } = at;
     let next = turn.checked_add(1).ok_or(AllocError)?;
-    let defined = defined_item(source, name, next)?;
-    let truth = true_item(source, name, next)?;
+    let defined = defined_item(file, blocks, name, next)?;
+    let truth = true_item(file, blocks, name, next)?;
     let mut items = vec![in alloc; defined, truth]?;
     items.extend_from_slice(more)?;
-    let earlier = state_node(source, name, turn)?;
+    let earlier = state_node(file, blocks, name, turn)?;
     let defines = vec![in alloc;
         Definition {
             item: defined,
@@ -189,15 +191,11 @@ fn state_fact(
             formula: t
         },
     ]?;
-    let inside = Node::Block {
-        file: source.file,
-        block,
-    };
     Ok(Fact {
-        node: state_node(source, name, next)?,
+        node: state_node(file, blocks, name, next)?,
         holds: Sequence::new(alloc),
         defines: Sequence::from_vec(defines),
-        names: Sequence::from_vec(vec![in alloc; earlier, inside]?),
+        names: Sequence::from_vec(vec![in alloc; earlier, Node::Block { file, block }]?),
         items: Sequence::from_vec(items),
     })
 }
@@ -227,37 +225,40 @@ fn given_items(alloc: Global, file: u32, line: u32, gives: Gives) -> Result<Vec<
 /// The fact behind a `#define` in a block.
 pub fn define_fact(
     alloc: Global,
-    source: SourceOf<'_>,
-    at: MacroLine<'_>,
+    file: u32,
+    blocks: &Blocks,
+    name: &Text,
+    turn: u32,
+    block: u32,
     line: u32,
     gives: Gives,
 ) -> Result<Fact, AllocError>
-    ensures { IfOk result (λ fact. fact ≡ spec.define_fact (source_of source.file source.blocks.now) at.name.now at.turn at.block line gives) }
+    ensures { IfOk result (λ fact. fact ≡ spec.define_fact (source_of file blocks.now) name.now turn block line gives) }
 {
-    let before = Formula::Is(defined_item(source, at.name, at.turn)?);
-    let d = any_of(vec![in alloc; on(source.file, at.block), before]?);
-    let before = Formula::Is(true_item(source, at.name, at.turn)?);
-    let given = all_of(vec![in alloc;
-        on(source.file, at.block),
-        given_truth(source.file, line, gives),
-    ]?);
-    let kept = all_of(vec![in alloc; off(alloc, source.file, at.block)?, before]?);
+    let before = Formula::Is(defined_item(file, blocks, name, turn)?);
+    let d = any_of(vec![in alloc; on(file, block), before]?);
+    let before = Formula::Is(true_item(file, blocks, name, turn)?);
+    let given = all_of(vec![in alloc; on(file, block), given_truth(file, line, gives)]?);
+    let kept = all_of(vec![in alloc; off(alloc, file, block)?, before]?);
     let t = any_of(vec![in alloc; given, kept]?);
-    let more = given_items(alloc, source.file, line, gives)?;
-    state_fact(alloc, source, at, d, t, &more)
+    let more = given_items(alloc, file, line, gives)?;
+    state_fact(alloc, file, blocks, name, turn, block, d, t, &more)
 }
 
 /// The fact behind an `#undef` in a block.
 pub fn undef_fact(
     alloc: Global,
-    source: SourceOf<'_>,
-    at: MacroLine<'_>,
+    file: u32,
+    blocks: &Blocks,
+    name: &Text,
+    turn: u32,
+    block: u32,
 ) -> Result<Fact, AllocError>
-    ensures { IfOk result (λ fact. fact ≡ spec.undef_fact (source_of source.file source.blocks.now) at.name.now at.turn at.block) }
+    ensures { IfOk result (λ fact. fact ≡ spec.undef_fact (source_of file blocks.now) name.now turn block) }
 {
-    let before = Formula::Is(defined_item(source, at.name, at.turn)?);
-    let d = all_of(vec![in alloc; off(alloc, source.file, at.block)?, before]?);
-    let before = Formula::Is(true_item(source, at.name, at.turn)?);
-    let t = all_of(vec![in alloc; off(alloc, source.file, at.block)?, before]?);
-    state_fact(alloc, source, at, d, t, &[])
+    let before = Formula::Is(defined_item(file, blocks, name, turn)?);
+    let d = all_of(vec![in alloc; off(alloc, file, block)?, before]?);
+    let before = Formula::Is(true_item(file, blocks, name, turn)?);
+    let t = all_of(vec![in alloc; off(alloc, file, block)?, before]?);
+    state_fact(alloc, file, blocks, name, turn, block, d, t, &[])
 }

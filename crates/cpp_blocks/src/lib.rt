@@ -18,7 +18,6 @@ mod mentions;
 mod nesting;
 mod piece_names;
 mod pieces;
-mod source;
 mod source_facts;
 mod starts;
 mod state;

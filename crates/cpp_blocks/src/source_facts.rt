@@ -1,5 +1,4 @@
 ghost use Rattle.std.specs.Prelude.{◌≡◌, ◌++◌, ◌∷◌, [], length, true, slice_get, IfOk, option_to_list};
-ghost use Rattle.cpp_blocks.specs.Counted.{turn_in};
 ghost use Rattle.cpp_blocks.specs.Formulas.{source_of, states_in};
 ghost use Rattle.cpp_blocks.specs.KeptTurns.{kept_turns};
 ghost use Rattle.cpp_blocks.specs.Mentions.{names_of};
@@ -12,24 +11,24 @@ use crate::conditions::{add_states, formula};
 use crate::facts::{define_fact, group_fact, undef_fact};
 use crate::gathered::Gathered;
 use crate::groups::{Groups, OpenGroups};
-use crate::source::{MacroLine, SourceOf};
 use crate::starts::{BuiltOf, StartOf};
 use crate::turns::Turns;
 use cpp_read::{Cond, Directive, What};
 use std::alloc::{AllocError, Global};
-use ut_logic::{Fact, Facts, Formula, Node, Text};
+use ut_logic::{Fact, Facts, Formula, Node};
 
 /// The states that a condition refers to there.
 fn states_of(
     alloc: Global,
-    source: SourceOf<'_>,
+    file: u32,
+    blocks: &Blocks,
     turns: &Turns,
     cond: &Cond,
 ) -> Result<Vec<Node>, AllocError>
-    ensures { IfOk result (λ v. v.items ≡ states_in (source_of source.file source.blocks.now) (kept_turns turns.now) cond.now) }
+    ensures { IfOk result (λ v. v.items ≡ states_in (source_of file blocks.now) (kept_turns turns.now) cond.now) }
 {
     let mut nodes = Vec::new(alloc);
-    add_states(source, turns, cond, &mut nodes)?;
+    add_states(file, blocks, turns, cond, &mut nodes)?;
     Ok(nodes)
 }
 
@@ -92,50 +91,46 @@ fn first_group(
     Ok(Some(fact))
 }
 
-/// A line of this macro there.
-fn macro_line<'a>(turns: &Turns, groups: &Groups, name: &'a Text) -> MacroLine<'a>
-    ensures name { result.name.now ≡ name.now }
-    ensures turn { result.turn ≡ turn_in turns.now name.now }
-    ensures block { result.block ≡ spec.current groups.now.chains }
-{
-    MacroLine {
-        name,
-        turn: turns.of(name),
-        block: groups.current(),
-    }
-}
-
 /// The fact of a directive, if it has one.
 fn fact_at(
     alloc: Global,
-    source: SourceOf<'_>,
+    file: u32,
+    blocks: &Blocks,
     turns: &Turns,
     groups: &Groups,
     directive: &Directive,
 ) -> Result<Option<Fact>, AllocError>
-    ensures { IfOk result (λ o. option_to_list o ≡ spec.fact_at (source_of source.file source.blocks.now) (kept_turns turns.now) groups.now directive.now.line directive.now.what) }
+    ensures { IfOk result (λ o. option_to_list o ≡ spec.fact_at (source_of file blocks.now) (kept_turns turns.now) groups.now directive.now.line directive.now.what) }
 {
     match &directive.what {
         What::If(cond) => {
-            let states = states_of(alloc, source, turns, cond)?;
-            let formula = formula(alloc, source, turns, cond)?;
-            first_group(alloc, source.file, groups, &states, formula)
+            let states = states_of(alloc, file, blocks, turns, cond)?;
+            let formula = formula(alloc, file, blocks, turns, cond)?;
+            first_group(alloc, file, groups, &states, formula)
         }
         What::Elif(cond) => {
-            let states = states_of(alloc, source, turns, cond)?;
-            let formula = formula(alloc, source, turns, cond)?;
-            next_group(alloc, source.file, groups, &states, formula)
+            let states = states_of(alloc, file, blocks, turns, cond)?;
+            let formula = formula(alloc, file, blocks, turns, cond)?;
+            next_group(alloc, file, groups, &states, formula)
         }
-        What::Else => next_group(alloc, source.file, groups, &[], Formula::Yes),
+        What::Else => next_group(alloc, file, groups, &[], Formula::Yes),
         What::Endif => Ok(None),
         What::Define { name, gives } => {
-            let at = macro_line(turns, groups, name);
-            let fact = define_fact(alloc, source, at, directive.line, *gives)?;
-            Ok(Some(fact))
+            let (turn, block) = (turns.of(name), groups.current());
+            Ok(Some(define_fact(
+                alloc,
+                file,
+                blocks,
+                name,
+                turn,
+                block,
+                directive.line,
+                *gives,
+            )?))
         }
         What::Undef { name } => {
-            let at = macro_line(turns, groups, name);
-            Ok(Some(undef_fact(alloc, source, at)?))
+            let (turn, block) = (turns.of(name), groups.current());
+            Ok(Some(undef_fact(alloc, file, blocks, name, turn, block)?))
         }
     }
 }
@@ -157,12 +152,11 @@ pub fn block_facts(
     ensures facts { IfOk result (λ f. f.list ≡ facts_of file blocks.now starts.now built) }
     ensures run { IfOk result (λ f. IsTheRun (source_of file blocks.now) blocks.now starts.now built f.list) }
 {
-    let source = SourceOf { file, blocks };
     let mut facts = Gathered::new(alloc, file, starts, built)?;
     let mut turns = Turns::new(alloc);
     let mut groups = Groups::new(alloc);
     for directive in blocks.directives() {
-        let fact = fact_at(alloc, source, &turns, &groups, directive)?;
+        let fact = fact_at(alloc, file, blocks, &turns, &groups, directive)?;
         facts.put(fact)?;
         turns.pass(alloc, &directive.what)?;
         groups.pass(alloc, &directive.what)?;

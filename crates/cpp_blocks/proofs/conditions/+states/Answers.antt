@@ -8,7 +8,7 @@ use Rattle.cpp_blocks.proofs.conditions.+states.Goals as goal
 
 pub add_states_each-loop-part-preserved : goal.add_states_each-loop-part-preserved
 add_states_each-loop-part-preserved t c =
-    let src = source_of c.args.source.file c.args.source.blocks.now in
+    let src = source_of c.args.file c.args.blocks.now in
     let turn = kept_turns c.args.turns.now in
     let state = λ (name : List ℕ). state_node src name (turn.name name) in
     ap (λ ns. ns ++ map state (flat_map (λ found. found) (map names_in (drop (c.loop-part.part-index + 1) c.args.list.now)))) (c.in_ok-add_states.ensures ∙ ap (λ x. c.loop-part.nodes.items ++ states_in src turn x) c.part-item.is)

@@ -7,5 +7,5 @@ use Rattle.cpp_blocks.specs.Mentions.{names_in}
 use Rattle.cpp_blocks.proofs.conditions.+states.Given as goal
 
 abbrev pub invariant-add_states_each-loop-part : goal.invariant-add_states_each-loop-part
-invariant-add_states_each-loop-part l = l.nodes.items ++ map (λ name. state_node (source_of l.source.file l.source.blocks.now) name ((kept_turns l.turns).name name)) (flat_map (λ found. found) (map names_in (drop l.part-index l.list)))
-    ≡ l.fn.nodes.items ++ map (λ name. state_node (source_of l.source.file l.source.blocks.now) name ((kept_turns l.turns).name name)) (flat_map (λ found. found) (map names_in l.list))
+invariant-add_states_each-loop-part l = l.nodes.items ++ map (λ name. state_node (source_of l.file l.blocks) name ((kept_turns l.turns).name name)) (flat_map (λ found. found) (map names_in (drop l.part-index l.list)))
+    ≡ l.fn.nodes.items ++ map (λ name. state_node (source_of l.file l.blocks) name ((kept_turns l.turns).name name)) (flat_map (λ found. found) (map names_in l.list))
