@@ -4,6 +4,7 @@ use crate::{
 use std::alloc::{AllocError, Global};
 use ut_logic::Trit;
 
+/// The word of a type.
 fn kind_text(kind: Kind) -> &'static str {
     match kind {
         Kind::Bool => "bool",
@@ -15,6 +16,7 @@ fn kind_text(kind: Kind) -> &'static str {
     }
 }
 
+/// The letter of a value.
 fn trit_text(value: Trit) -> &'static str {
     match value {
         Trit::N => "n",
@@ -23,6 +25,7 @@ fn trit_text(value: Trit) -> &'static str {
     }
 }
 
+/// A sign as it is written.
 fn sign_text(sign: Sign) -> &'static str {
     match sign {
         Sign::Same => "=",
@@ -34,6 +37,7 @@ fn sign_text(sign: Sign) -> &'static str {
     }
 }
 
+/// Appends a text.
 fn push(shown: &mut Vec<u8>, text: &str) -> Result<(), AllocError> {
     shown.extend_from_slice(text.as_bytes())
 }
@@ -48,6 +52,7 @@ fn push_side(shown: &mut Vec<u8>, side: &Side) -> Result<(), AllocError> {
     }
 }
 
+/// Appends a text with one before it and one behind it.
 fn push_between(
     shown: &mut Vec<u8>,
     before: &str,
@@ -91,6 +96,7 @@ fn push_list(shown: &mut Vec<u8>, word: &str, list: &[Expr]) -> Result<(), Alloc
     push(shown, ")")
 }
 
+/// The conditions of prompts.
 fn push_prompts(shown: &mut Vec<u8>, list: &[Expr]) -> Result<(), AllocError> {
     for prompt in list {
         push(shown, " prompt ")?;
@@ -99,11 +105,13 @@ fn push_prompts(shown: &mut Vec<u8>, list: &[Expr]) -> Result<(), AllocError> {
     Ok(())
 }
 
+/// A target and its condition behind a word.
 fn push_select(shown: &mut Vec<u8>, word: &str, select: &SelectOf) -> Result<(), AllocError> {
     push_between(shown, word, select.target.text(), " if ")?;
     push_expr(shown, &select.cond)
 }
 
+/// Targets and their conditions, each behind a word.
 fn push_selects(shown: &mut Vec<u8>, word: &str, list: &[SelectOf]) -> Result<(), AllocError> {
     for select in list {
         push_select(shown, word, select)?;
@@ -111,6 +119,7 @@ fn push_selects(shown: &mut Vec<u8>, word: &str, list: &[SelectOf]) -> Result<()
     Ok(())
 }
 
+/// The value of a default, its text where it has one, and its condition.
 fn push_default(shown: &mut Vec<u8>, default: &DefaultOf) -> Result<(), AllocError> {
     push(shown, " default ")?;
     push_expr(shown, &default.value)?;
@@ -121,6 +130,7 @@ fn push_default(shown: &mut Vec<u8>, default: &DefaultOf) -> Result<(), AllocErr
     push_expr(shown, &default.cond)
 }
 
+/// Defaults in their order.
 fn push_defaults(shown: &mut Vec<u8>, list: &[DefaultOf]) -> Result<(), AllocError> {
     for default in list {
         push_default(shown, default)?;
@@ -128,6 +138,7 @@ fn push_defaults(shown: &mut Vec<u8>, list: &[DefaultOf]) -> Result<(), AllocErr
     Ok(())
 }
 
+/// The number of the choice that a config stands in.
 fn push_choice_number(
     alloc: Global,
     shown: &mut Vec<u8>,
@@ -140,6 +151,7 @@ fn push_choice_number(
     Ok(())
 }
 
+/// A config: its name, its type and its properties.
 fn push_config(alloc: Global, shown: &mut Vec<u8>, config: &ConfigEntry) -> Result<(), AllocError> {
     push_between(shown, config.name.text(), " ", kind_text(config.kind))?;
     push_choice_number(alloc, shown, config.choice)?;
@@ -155,6 +167,7 @@ fn push_config(alloc: Global, shown: &mut Vec<u8>, config: &ConfigEntry) -> Resu
     push(shown, "; ")
 }
 
+/// A choice: its type and its properties.
 fn push_choice(shown: &mut Vec<u8>, choice: &ChoiceEntry) -> Result<(), AllocError> {
     push_between(shown, "choice ", kind_text(choice.kind), "")?;
     if choice.optional {
