@@ -4,6 +4,10 @@
 //! type and its properties: `p:COND` a prompt, `d:VALUE:COND` a default, `s:TARGET:COND` a select, `c:0` that it
 //! stands in the choice, `modules`. A choice is its prompts, and perhaps `optional`.
 
+ghost use Rattle.std.specs.Prelude.{◌<◌, All, IfSome};
+ghost use Rattle.std.specs.Bool.{OnTrue};
+ghost use Rattle.kconf_tree.specs.Built.{HaveChoices};
+
 use kconf_parse::{ChoiceEntry, ConfigEntry, DefaultOf, Entries, Expr, Kind, SelectOf, Side, Sign};
 use kconf_tree::Tree;
 use sqlite_items::{Boxed, Items};
@@ -206,6 +210,28 @@ fn choices(alloc: Global, text: Option<&str>) -> Result<Vec<ChoiceEntry>, Fail> 
     Ok(list)
 }
 
+/// Whether each choice that a config stands in is there.
+fn are_there(configs: &[ConfigEntry], count: usize) -> bool
+    ensures { OnTrue result (All (λ c. IfSome c.choice (λ i. i < count)) configs.now) }
+{
+    for config in configs {
+        if let Some(choice) = config.choice {
+            if choice as usize >= count {
+                return false;
+            }
+        }
+    }
+    true
+}
+
+/// Whether entries can be built on.
+fn have_choices(entries: &Entries) -> bool
+    ensures { OnTrue result (HaveChoices entries.now) }
+{
+    entries.choices.len() < 4_294_967_296
+        && are_there(entries.configs.as_slice(), entries.choices.len())
+}
+
 /// A tree.
 pub fn tree(alloc: Global, text: &str) -> Result<Tree, Fail> {
     let (symbols, rest) = match text.split_once("/") {
@@ -216,6 +242,9 @@ pub fn tree(alloc: Global, text: &str) -> Result<Tree, Fail> {
         configs: Sequence::from_vec(configs(alloc, symbols)?),
         choices: Sequence::from_vec(choices(alloc, rest)?),
     };
+    if !have_choices(&entries) {
+        return Err(Fail::from("a choice that isn't there"));
+    }
     match Tree::build(alloc, entries) {
         Ok(tree) => Ok(tree),
         Err(_) => Err(Fail::from("a tree")),

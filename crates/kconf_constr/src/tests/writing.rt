@@ -53,11 +53,14 @@ pub fn push_formula(text: &mut String, formula: &Formula) -> Result<(), Fail> {
 /// Formulas in parentheses, with a sign between.
 #[cycle(writing)]
 fn push_list(text: &mut String, sign: &str, list: &[Formula]) -> Result<(), Fail> {
-    let mut before = "(";
+    text.push_str("(")?;
+    let mut behind = false;
     for part in list {
-        text.push_str(before)?;
+        if behind {
+            text.push_str(sign)?;
+        }
         push_formula(text, part)?;
-        before = sign;
+        behind = true;
     }
     text.push_str(")")?;
     Ok(())
@@ -65,11 +68,13 @@ fn push_list(text: &mut String, sign: &str, list: &[Formula]) -> Result<(), Fail
 
 /// What a fact holds, with one blank between.
 fn push_holds(text: &mut String, fact: &Fact) -> Result<(), Fail> {
-    let mut before = "";
+    let mut behind = false;
     for formula in fact.holds.as_slice() {
-        text.push_str(before)?;
+        if behind {
+            text.push_str(" ")?;
+        }
         push_formula(text, formula)?;
-        before = " ";
+        behind = true;
     }
     Ok(())
 }
@@ -77,11 +82,13 @@ fn push_holds(text: &mut String, fact: &Fact) -> Result<(), Fail> {
 /// What all facts hold, with `;` between.
 pub fn held(alloc: Global, facts: &Facts) -> Result<String, Fail> {
     let mut text = String::new(alloc);
-    let mut before = "";
+    let mut behind = false;
     for fact in facts.list.as_slice() {
-        text.push_str(before)?;
+        if behind {
+            text.push_str("; ")?;
+        }
         push_holds(&mut text, fact)?;
-        before = "; ";
+        behind = true;
     }
     Ok(text)
 }
@@ -105,15 +112,15 @@ fn push_items(text: &mut String, fact: &Fact) -> Result<(), Fail> {
 /// The node, the names and the items of each fact.
 pub fn named(alloc: Global, facts: &Facts) -> Result<String, Fail> {
     let mut text = String::new(alloc);
-    let mut before = "";
     for fact in facts.list.as_slice() {
-        text.push_str(before)?;
+        if !text.is_empty() {
+            text.push_str(" ")?;
+        }
         push_node(&mut text, fact.node)?;
         text.push_str(":")?;
         push_names(&mut text, fact)?;
         text.push_str(":")?;
         push_items(&mut text, fact)?;
-        before = " ";
     }
     Ok(text)
 }
