@@ -1,5 +1,5 @@
 -- Whether a choice keeps its rules depends on its mode, its members and what it refers to alone.
-use Rattle.std.proofs.Common.{◌≡◌, ℕ, ◌==◌, Bool, true, false, not, ◌&&◌, ◌||◌, cond, List, [], ◌∷◌, ◌++◌, length, filter, refl, ap, sym, ◌∙◌}
+use Rattle.std.proofs.Common.{◌≡◌, ℕ, ◌==◌, Bool, true, not, ◌&&◌, ◌||◌, cond, List, [], ◌∷◌, length, filter, refl, ap, sym, ◌∙◌}
 use Rattle.std.specs.List.{list_any, list_all, flat_map}
 use Rattle.kconf_tree.specs.Shape.{Shape, choice_at}
 use Rattle.kconf_tree.specs.Value.{Configuration}
@@ -9,7 +9,7 @@ use Rattle.kconf_tree.specs.References.{own_references, choice_references}
 use Rattle.kconf_tree.specs.Made.{is_among}
 use Rattle.kconf_tree.proofs.Small.{or_left, or_right, number_self}
 use Rattle.kconf_tree.proofs.ValueLaws.{Agree, Alike, agree_left, agree_right}
-use Rattle.complete_conf.proofs.LimitsSame.{visibility_same, choice_visibility_same, members_agree, members_of}
+use Rattle.complete_conf.proofs.LimitsSame.{visibility_same, choice_visibility_same, members_agree}
 use Rattle.complete_conf.proofs.PickLaws.{members_test}
 
 -- tests that agree on a list

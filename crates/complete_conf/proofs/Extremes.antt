@@ -1,5 +1,5 @@
 -- The least and the greatest of a list with one more.
-use Rattle.std.proofs.Common.{◌≡◌, ℕ, ◌+◌, ◌<◌, ◌≤◌, List, [], ◌∷◌, ◌++◌, length, take, get_or, map, min, max, refl, ap, sym, ◌∙◌, arith, rules}
+use Rattle.std.proofs.Common.{◌≡◌, ℕ, ◌+◌, ◌<◌, ◌≤◌, List, [], ◌∷◌, ◌++◌, length, take, get_or, map, min, max, arith}
 use Rattle.std.proofs.lemmas.List.{map_more}
 use Rattle.ut_logic.specs.declared.trit.Trit.{Trit}
 use Rattle.ut_logic.specs.declared.trit.Trit.TheVariants.{N, M, Y}

@@ -1,5 +1,5 @@
 -- The limits of a symbol, and its calculated value, depend on what it refers to alone.
-use Rattle.std.proofs.Common.{◌≡◌, ℕ, ◌==◌, Bool, true, false, cond, List, [], ◌∷◌, ◌++◌, map, refl, ap, sym, ◌∙◌, min, max, arith, rules, Option, None, Some, subst}
+use Rattle.std.proofs.Common.{◌≡◌, ℕ, ◌==◌, cond, List, [], ◌∷◌, ◌++◌, map, refl, ap, sym, ◌∙◌, min, Option}
 use Rattle.std.specs.List.{flat_map}
 use Rattle.std.specs.Option.{option_to_list}
 use Rattle.kconf_parse.specs.declared.expr.Expr.{Expr}
@@ -10,12 +10,12 @@ use Rattle.kconf_tree.specs.declared.shape.Counts.TheVariants as counts
 use Rattle.kconf_tree.specs.declared.shape.Selector.{Selector}
 use Rattle.kconf_tree.specs.Shape.{Shape, symbol_at, choice_at, counts_as, selectors_of, impliers_of, number_of, counts_alone}
 use Rattle.kconf_tree.specs.declared.place.Place.TheVariants.{Condition, Value}
-use Rattle.kconf_tree.specs.Value.{Configuration, value_in, value_of, own_value, has_modules, greatest, stands_for}
+use Rattle.kconf_tree.specs.Value.{Configuration, value_of, has_modules, greatest, stands_for}
 use Rattle.kconf_tree.specs.Properties.{visibility_of, reverse_of, default_of, first_default, selected_by, choice_visibility_of}
-use Rattle.kconf_tree.specs.Valid.{calculate, calculated_of, can_be_y}
+use Rattle.kconf_tree.specs.Valid.{calculate, calculated_of}
 use Rattle.kconf_tree.specs.References.{numbers_in, in_conditions, of_default, of_selector, of_type, of_implied, own_references, symbol_references, choice_references, of_choice_default, picked_outside}
 use Rattle.kconf_tree.specs.Right.{IsRight}
-use Rattle.complete_conf.specs.Free.{named_by_defaults, free_mode, least_mode}
+use Rattle.complete_conf.specs.Free.{named_by_defaults}
 use Rattle.kconf_tree.proofs.ValueLaws.{Agree, Alike, agree_left, agree_right, value_same, on_same}
 
 -- what a symbol refers to, in parts

@@ -2,7 +2,7 @@
 -- to holds; and a right node stays right while it and what it refers to keep their values.
 use Rattle.std.proofs.Common.{◌≡◌, ℕ, ◌==◌, Bool, true, false, not, ◌&&◌, ◌||◌, cond, List, [], ◌∷◌, ◌++◌, map, refl, ap, sym, ◌∙◌, subst, Option, None, Some, ◌⊎◌, inl, inr}
 use Rattle.std.specs.Prelude.{is_some}
-use Rattle.std.specs.List.{list_any, flat_map, find}
+use Rattle.std.specs.List.{find}
 use Rattle.ut_logic.specs.declared.node.Node.{Node}
 use Rattle.ut_logic.specs.declared.node.Node.TheVariants.{Sym, Choice, Block, State}
 use Rattle.ut_logic.specs.Node.{node_eq}
@@ -11,7 +11,7 @@ use Rattle.kconf_tree.specs.Shape.{Shape, symbol_at, choice_at, is_member, is_th
 use Rattle.kconf_tree.specs.Value.{Configuration}
 use Rattle.kconf_tree.specs.Properties.{choice_visibility_of}
 use Rattle.kconf_tree.specs.Valid.{calculated_of, is_y, is_n, can_be_y, allows_mode, keeps_mode, is_right_choice}
-use Rattle.kconf_tree.specs.References.{own_references, symbol_references, choice_references, node_by, node_of, references_of}
+use Rattle.kconf_tree.specs.References.{symbol_references, choice_references, node_by, node_of, references_of}
 use Rattle.kconf_tree.specs.Right.{IsRight}
 use Rattle.complete_conf.specs.Free.{is_candidate, least_mode, free_mode, named_by_defaults, picked_at, picked_of}
 use Rattle.complete_conf.specs.Completion.{with_value}

@@ -1,32 +1,25 @@
 -- A known part that is closed and right completes to a configuration that keeps the rules.
-use Rattle.std.proofs.Common.{◌≡◌, ℕ, zero, suc, ◌+◌, ◌<◌, ◌≤◌, ◌==◌, Bool, true, false, not, ◌&&◌, ◌||◌, cond, List, [], ◌∷◌, ◌++◌, map, length, get_or, refl, ap, sym, ◌∙◌, subst, arith, rules, Option, None, Some, ◌⊎◌, inl, inr}
-use Rattle.std.proofs.lemmas.Bool.{false≢true, cases_lt}
+use Rattle.std.proofs.Common.{◌≡◌, ℕ, ◌==◌, Bool, true, false, not, ◌&&◌, cond, List, [], ◌∷◌, ◌++◌, map, refl, ap, sym, ◌∙◌, subst, Option, None, Some, ◌⊎◌, inl, inr}
+use Rattle.std.proofs.lemmas.Bool.{false≢true}
 use Rattle.std.specs.Prelude.{is_some}
-use Rattle.std.specs.List.{list_any, flat_map, range_with_len, All, Contains}
+use Rattle.std.specs.List.{flat_map}
 use Rattle.std.proofs.lemmas.List.Elements.{All-head, All-tail}
-use Rattle.std.proofs.lemmas.Cmp.{eq_by_cmp_equiv}
 use Rattle.ut_logic.specs.declared.node.Node.{Node}
 use Rattle.ut_logic.specs.declared.node.Node.TheVariants.{Sym, Choice, Block, State}
-use Rattle.ut_logic.specs.Node.{node_eq, node_total}
+use Rattle.ut_logic.specs.Node.{node_eq}
 use Rattle.ut_logic.specs.NodeIdentity.{node_eq-Decides}
-use Rattle.kconf_tree.specs.declared.shape.Choice.{Choice as OneChoice}
-use Rattle.kconf_tree.specs.Shape.{Shape, symbol_at, choice_at, is_member, is_the, no_choice}
+use Rattle.kconf_tree.specs.Shape.{Shape, symbol_at, choice_at, is_member, is_the}
 use Rattle.kconf_tree.specs.Value.{Configuration}
-use Rattle.kconf_tree.specs.Valid.{calculated_of, is_right_choice, IsSettingOf, KeepsRules}
-use Rattle.kconf_tree.specs.Gathered.{distinct}
+use Rattle.kconf_tree.specs.Valid.{calculated_of}
 use Rattle.kconf_tree.specs.References.{symbol_references, choice_references, node_by, node_of, references_of}
-use Rattle.kconf_tree.specs.Orders.{nodes_of, node_at, with_members, empty_choices, IsOrder}
-use Rattle.kconf_tree.proofs.Places.{distinct_apart, distinct_has}
-use Rattle.kconf_tree.specs.Right.{IsRight}
+use Rattle.kconf_tree.specs.Orders.{node_at, with_members}
 use Rattle.complete_conf.specs.Free.{free_mode, picked_of}
 use Rattle.complete_conf.specs.Parts.{Part, Holds, IsClosedPart, IsRightPart, IsKeptBy}
-use Rattle.complete_conf.specs.Completion.{with_value, with_symbol, with_choice, with_node, completed}
+use Rattle.complete_conf.specs.Completion.{with_value, with_choice, with_node, completed}
 use Rattle.kconf_tree.specs.Made.{is_among, IsWellMade}
 use Rattle.kconf_tree.proofs.Small.{or_left, or_right, or_cases, number_is, number_self, is_off, both_true, and_left, and_right}
-use Rattle.kconf_tree.proofs.RightLaws.{setting_from_right}
-use Rattle.kconf_tree.proofs.OrderLaws.{among, Ordered, settle_all, completed_right}
-use Rattle.complete_conf.proofs.NodeLaws.{settle_node, settle_choice, Keeps, Right, nodes_settle}
-use Rattle.kconf_tree.proofs.GraphOrders.{ordered_nodes, node_in_order, any_contains, contains_any, contains_map}
+use Rattle.kconf_tree.proofs.OrderLaws.{among, settle_all}
+use Rattle.complete_conf.proofs.NodeLaws.{settle_node, settle_choice, Right, nodes_settle}
 
 -- ---- what is known stays, along any list of nodes
 

@@ -1,13 +1,11 @@
 -- Members that get their values one after another.
-use Rattle.std.proofs.Common.{◌≡◌, ℕ, zero, suc, ◌+◌, ◌<◌, ◌≤◌, ◌==◌, Bool, true, false, not, ◌&&◌, ◌||◌, cond, Option, None, Some, ◌⊎◌, inl, inr, subst, List, [], ◌∷◌, ◌++◌, length, take, get_or, refl, ap, sym, ◌∙◌, arith, rules}
+use Rattle.std.proofs.Common.{◌≡◌, ℕ, zero, suc, ◌+◌, ◌<◌, ◌==◌, Bool, true, false, not, ◌&&◌, ◌||◌, cond, Option, inl, inr, subst, List, [], ◌∷◌, ◌++◌, length, take, get_or, refl, ap, sym, ◌∙◌, arith}
 use Rattle.std.proofs.lemmas.List.{take_more}
 use Rattle.std.specs.List.{list_any}
-use Rattle.std.proofs.lemmas.Bool.{cases_lt}
-use Rattle.kconf_tree.specs.declared.shape.Symbol.{Symbol}
-use Rattle.kconf_tree.specs.Shape.{Shape, choice_at, no_symbol, is_the}
+use Rattle.kconf_tree.specs.Shape.{is_the}
 use Rattle.kconf_tree.specs.Value.{Configuration}
 use Rattle.complete_conf.specs.Inner.{with_picked}
-use Rattle.kconf_tree.specs.Made.{is_among, IsWellMade}
+use Rattle.kconf_tree.specs.Made.{is_among}
 use Rattle.complete_conf.specs.Parts.{Part}
 use Rattle.kconf_tree.proofs.Small.{or_left, or_right, or_cases, number_is, number_self}
 

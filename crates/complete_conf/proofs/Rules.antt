@@ -1,12 +1,12 @@
 -- Completion along the order of a tree keeps the rules.
-use Rattle.std.proofs.Common.{◌≡◌, ℕ, zero, suc, ◌+◌, ◌-◌, ◌<◌, ◌≤◌, ◌==◌, Bool, true, false, not, ◌&&◌, ◌||◌, cond, List, [], ◌∷◌, ◌++◌, map, length, get_or, refl, ap, sym, ◌∙◌, subst, arith, rules, Option, None, Some, ◌⊎◌, inl, inr}
+use Rattle.std.proofs.Common.{◌≡◌, ℕ, zero, suc, ◌+◌, ◌<◌, ◌≤◌, ◌==◌, Bool, true, false, ◌||◌, cond, List, [], ◌∷◌, map, length, get_or, refl, ap, sym, ◌∙◌, subst, arith, Option, None, Some, ◌⊎◌, inl, inr}
 use Rattle.std.proofs.lemmas.Bool.{false≢true, cases_lt}
 use Rattle.std.proofs.lemmas.Bool.Decides.{nat_tests}
 use Rattle.std.specs.Prelude.{is_some}
 use Rattle.std.specs.List.{list_any, flat_map, range_with_len, Contains}
 use Rattle.std.proofs.lemmas.Cmp.{eq_by_cmp_equiv}
 use Rattle.ut_logic.specs.declared.node.Node.{Node}
-use Rattle.ut_logic.specs.declared.node.Node.TheVariants.{Sym, Choice, Block, State}
+use Rattle.ut_logic.specs.declared.node.Node.TheVariants.{Sym, Choice}
 use Rattle.ut_logic.specs.Node.{node_eq, node_total}
 use Rattle.ut_logic.specs.NodeIdentity.{node_eq-Decides}
 use Rattle.kconf_tree.specs.declared.shape.Choice.{Choice as OneChoice}
@@ -25,7 +25,7 @@ use Rattle.kconf_tree.proofs.Small.{or_left, or_right, or_cases, number_self}
 use Rattle.kconf_tree.proofs.RightLaws.{setting_from_right}
 use Rattle.kconf_tree.proofs.OrderLaws.{among, settle_all, completed_right}
 use Rattle.complete_conf.proofs.NodeLaws.{settle_node, Keeps, Right, nodes_settle}
-use Rattle.kconf_tree.proofs.GraphOrders.{ordered_nodes, node_in_order, any_contains, contains_any}
+use Rattle.kconf_tree.proofs.GraphOrders.{ordered_nodes, node_in_order, any_contains}
 use Rattle.complete_conf.proofs.PartLaws.{completed_append, without_members, knows, all_steps, closed_nodes, right_nodes, NoNode, empties_right}
 
 -- ---- the nodes of a tree

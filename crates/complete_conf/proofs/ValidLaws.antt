@@ -2,7 +2,7 @@
 use Rattle.std.proofs.Common.{◌≡◌, ◌<◌, ℕ, true, false, List, length}
 use Rattle.kconf_tree.specs.Shape.{Shape, is_member}
 use Rattle.kconf_tree.specs.Value.{Configuration}
-use Rattle.kconf_tree.specs.Valid.{is_right_choice, KeepsRules, IsValid}
+use Rattle.kconf_tree.specs.Valid.{is_right_choice, IsValid}
 use Rattle.kconf_tree.specs.Right.{IsRight}
 use Rattle.kconf_tree.proofs.RightLaws.{setting_from_right}
 

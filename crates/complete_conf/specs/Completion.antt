@@ -1,10 +1,10 @@
 -- A configuration completed: along an order, all that doesn't belong to a part gets the value that it has
 -- without a user's setting under what is there by then. A choice and its members come as one.
 -- This project's rule.
-use Rattle.std.specs.Prelude.{ℕ, ◌==◌, Bool, not, ◌&&◌, List, [], ◌∷◌, Option, None, Some, if◌then◌else◌}
+use Rattle.std.specs.Prelude.{ℕ, ◌==◌, not, ◌&&◌, List, [], ◌∷◌, None, if◌then◌else◌}
 use Rattle.ut_logic.specs.declared.node.Node.{Node}
 use Rattle.ut_logic.specs.declared.node.Node.TheVariants.{Sym, Choice}
-use Rattle.kconf_tree.specs.Shape.{Shape, symbol_at, choice_at, is_the, is_member}
+use Rattle.kconf_tree.specs.Shape.{Shape, choice_at, is_the, is_member}
 use Rattle.kconf_tree.specs.Value.{Configuration}
 use Rattle.kconf_tree.specs.Valid.{calculated_of}
 use Rattle.complete_conf.specs.Free.{free_mode, picked_of}

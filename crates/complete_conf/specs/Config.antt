@@ -1,6 +1,6 @@
 -- The configuration that a `Config` stands for, and the trees that it fits.
 -- This project's rule.
-use Rattle.std.specs.Prelude.{◌≡◌, ◌≤◌, ℕ, false, length, slice_index_or}
+use Rattle.std.specs.Prelude.{◌≡◌, ◌≤◌, false, length, slice_index_or}
 use Rattle.ut_logic.specs.Trit.{rank}
 use Rattle.ut_logic.specs.declared.trit.Trit.TheVariants.{N}
 use Rattle.kconf_tree.specs.Shape.{Shape}

@@ -1,8 +1,8 @@
 -- Values and modes without a user's setting: what calculation gives a symbol, the least mode that a choice
 -- allows, and the member that a choice picks.
 -- Rule: Linux kconfig-language, "Menu attributes"; for choices this project's rule.
-use Rattle.std.specs.Prelude.{ℕ, ◌==◌, Bool, not, ◌&&◌, ◌||◌, List, [], ◌∷◌, ◌++◌, Option, None, Some, if◌then◌else◌}
-use Rattle.std.specs.List.{list_any, find}
+use Rattle.std.specs.Prelude.{ℕ, ◌==◌, Bool, ◌&&◌, ◌||◌, List, [], ◌∷◌, ◌++◌, Option, None, Some, if◌then◌else◌}
+use Rattle.std.specs.List.{find}
 use Rattle.std.specs.Option.{option_to_list}
 use Rattle.kconf_parse.specs.declared.entries.SelectOf.{SelectOf}
 use Rattle.kconf_tree.specs.Shape.{Shape, symbol_at, choice_at, is_the, number_of}

@@ -1,8 +1,6 @@
 -- What inner functions promise each other. No public contract cites this module.
 use Rattle.std.specs.Prelude.{◌≡◌, ◌<◌, ℕ, ◌==◌, true, not, ◌&&◌, List, Option, None, Some, if◌then◌else◌, length}
-use Rattle.ut_logic.specs.declared.node.Node.{Node}
-use Rattle.ut_logic.specs.declared.node.Node.TheVariants.{Sym, Choice, Block, State}
-use Rattle.kconf_tree.specs.Shape.{Shape, is_the}
+use Rattle.kconf_tree.specs.Shape.{is_the}
 use Rattle.kconf_tree.specs.Value.{Configuration}
 use Rattle.complete_conf.specs.declared.config.Config.{Config}
 use Rattle.kconf_tree.specs.Made.{is_among}

@@ -1,4 +1,4 @@
-ghost use Rattle.std.specs.Prelude.{◌≡◌, ◌<◌, ◌↔◌, ◌==◌, ℕ, Bool, not, false, true, ◌||◌, ◌&&◌, IsTrue, EachIndex, if◌then◌else◌, length, filter};
+ghost use Rattle.std.specs.Prelude.{◌≡◌, ◌<◌, ◌↔◌, ◌==◌, ℕ, false, true, ◌||◌, ◌&&◌, IsTrue, if◌then◌else◌, length, filter};
 ghost use Rattle.std.specs.List.{list_all, list_any};
 ghost use Rattle.ut_logic.specs.Trit.{rank};
 ghost use Rattle.kconf_tree.specs.Shape as shape;

@@ -1,6 +1,5 @@
 ghost use Rattle.std.specs.Prelude.{◌≡◌, ◌<◌, length, map};
 ghost use Rattle.ut_logic.specs.Trit.{rank};
-ghost use Rattle.kconf_tree.specs.Shape as shape;
 ghost use Rattle.kconf_tree.specs.Value as spec;
 ghost use Rattle.kconf_parse.specs.declared.expr.Expr.TheOpen.{Expr-F as step};
 ghost use Rattle.complete_conf.specs.Config.{configuration_of};

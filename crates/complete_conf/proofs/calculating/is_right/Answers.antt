@@ -1,5 +1,4 @@
 use Rattle.std.proofs.Common.{◌≡◌, ◌≤◌, ◌∙◌, ℕ, sym, subst}
-use Rattle.ut_logic.specs.Trit.{rank}
 use Rattle.complete_conf.specs.Config.{configuration_of}
 use Rattle.kconf_tree.specs.Right.{is_settled, is_right}
 use Rattle.complete_conf.proofs.Extremes.{rank_small}

@@ -1,4 +1,4 @@
-use Rattle.std.proofs.Common.{◌≡◌, refl, sym, ap, subst, ◌∙◌}
+use Rattle.std.proofs.Common.{refl, sym, ap, subst, ◌∙◌}
 use Rattle.kconf_tree.specs.Value.{Configuration}
 use Rattle.kconf_tree.specs.Valid.{KeepsRules}
 use Rattle.complete_conf.specs.Completion.{completed}

@@ -1,6 +1,5 @@
 use Rattle.std.proofs.Common.{◌≡◌, ◌∙◌, ◌<◌, ℕ, List, true, ap, sym, subst}
 use Rattle.kconf_tree.specs.Shape.{choice_at}
-use Rattle.kconf_tree.specs.Value.{Configuration}
 use Rattle.complete_conf.specs.Config.{configuration_of}
 use Rattle.complete_conf.specs.Free.{free_mode, candidate_of, picked_at, picked_of}
 use Rattle.kconf_tree.specs.Made.{is_among}

@@ -1,4 +1,4 @@
-use Rattle.std.proofs.Common.{◌≡◌, ◌∙◌, ◌<◌, get_or, length, refl, arith}
+use Rattle.std.proofs.Common.{◌∙◌, ◌<◌, get_or, length, refl, arith}
 use Rattle.complete_conf.specs.Config.{configuration_of}
 use Rattle.complete_conf.specs.Parts.{part_of}
 use Rattle.complete_conf.proofs.Picked.{picked_more, one_has}

@@ -1,5 +1,4 @@
-use Rattle.std.proofs.Common.{◌≡◌, refl, sym, ◌∙◌}
-use Rattle.kconf_tree.specs.Valid.{IsValid}
+use Rattle.std.proofs.Common.{refl}
 use Rattle.complete_conf.specs.Config.{configuration_of}
 use Rattle.complete_conf.proofs.ValidLaws.{valid_from, right_from, choices_from}
 use Rattle.complete_conf.proofs.validity.is_valid.Goals as goal

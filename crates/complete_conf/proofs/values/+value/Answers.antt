@@ -1,4 +1,4 @@
-use Rattle.std.proofs.Common.{◌∙◌, ap, sym}
+use Rattle.std.proofs.Common.{◌∙◌, ap}
 use Rattle.kconf_tree.specs.Value as spec
 use Rattle.complete_conf.specs.Config.{configuration_of}
 use Rattle.complete_conf.proofs.Extremes.{least_more, greatest_more}
