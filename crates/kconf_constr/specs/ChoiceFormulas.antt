@@ -17,9 +17,21 @@ seen s j = (visibility_halves s j).not_n
 abbrev pub choice_seen : Scope → ℕ → Formula
 choice_seen s i = (prompts_halves s (choice_at s.shape i).prompts).not_n
 
--- mode y where the choice is visible alone, and there it is, unless it is optional
+-- the mode of a choice is y
+abbrev pub in_mode_y : ℕ → Formula
+in_mode_y i = Is (ModeY i)
+
+-- mode y where the choice is visible alone
+abbrev pub mode_only : Formula → Formula → Formula
+mode_only visible mode = any_of (not_of mode ∷ visible ∷ [])
+
+-- mode y where it is visible
+abbrev pub mode_there : Formula → Formula → Formula
+mode_there visible mode = any_of (not_of visible ∷ mode ∷ [])
+
+-- both, but an optional choice may have mode n too
 abbrev pub mode_holds : Bool → Formula → Formula → List Formula
-mode_holds optional visible mode = any_of (not_of mode ∷ visible ∷ []) ∷ (if optional then [] else any_of (not_of visible ∷ mode ∷ []) ∷ [])
+mode_holds optional visible mode = mode_only visible mode ∷ (if optional then [] else mode_there visible mode ∷ [])
 
 -- a member is y in mode y alone, and where it is visible
 abbrev pub member_holds : (ℕ → Formula) → Formula → ℕ → List Formula
@@ -49,7 +61,7 @@ some_holds visible mode members j = any_of (not_of mode ∷ not_of (visible j) �
 
 -- of a choice
 abbrev pub choice_holds : Scope → ℕ → List Formula
-choice_holds s i = mode_holds (choice_at s.shape i).optional (choice_seen s i) (Is (ModeY i))
-    ++ members_hold (seen s) (Is (ModeY i)) (choice_at s.shape i).members
+choice_holds s i = mode_holds (choice_at s.shape i).optional (choice_seen s i) (in_mode_y i)
+    ++ members_hold (seen s) (in_mode_y i) (choice_at s.shape i).members
     ++ pairs (choice_at s.shape i).members
-    ++ map (some_holds (seen s) (Is (ModeY i)) (choice_at s.shape i).members) (choice_at s.shape i).members
+    ++ map (some_holds (seen s) (in_mode_y i) (choice_at s.shape i).members) (choice_at s.shape i).members

@@ -100,13 +100,21 @@ side_halves s (side.Const x) = value_halves x
 side_halves s (side.Name name) = name_halves s name
 side_halves s d = both No
 
--- both are y, both are n, or both are m
+-- both are y
+abbrev pub both_y : Halves → Halves → Formula
+both_y a b = all_of (a.is_y ∷ b.is_y ∷ [])
+
+-- both are n
+abbrev pub both_n : Halves → Halves → Formula
+both_n a b = all_of (not_of a.not_n ∷ not_of b.not_n ∷ [])
+
+-- both are m
+abbrev pub both_m : Halves → Halves → Formula
+both_m a b = all_of (a.not_n ∷ not_of a.is_y ∷ b.not_n ∷ not_of b.is_y ∷ [])
+
+-- both have one value
 abbrev pub same : Halves → Halves → Formula
-same a b = any_of (
-    all_of (a.is_y ∷ b.is_y ∷ [])
-    ∷ all_of (not_of a.not_n ∷ not_of b.not_n ∷ [])
-    ∷ all_of (a.not_n ∷ not_of a.is_y ∷ b.not_n ∷ not_of b.is_y ∷ [])
-    ∷ [])
+same a b = any_of (both_y a b ∷ both_n a b ∷ both_m a b ∷ [])
 
 -- `=`, or its negation
 abbrev pub compared : Sign → Formula → Formula

@@ -1,6 +1,6 @@
 //! The formulas that a choice holds.
 
-ghost use Rattle.std.specs.Prelude.{◌≡◌, ◌<◌, ◌++◌, ◌∷◌, [], All, IfOk, OnOk, length, map};
+ghost use Rattle.std.specs.Prelude.{◌≡◌, ◌<◌, ◌++◌, All, IfOk, OnOk, length, map};
 ghost use Rattle.ut_logic.specs.Fold as fold;
 ghost use Rattle.kconf_tree.specs.Shape.{choice_at};
 ghost use Rattle.kconf_constr.specs.ChoiceFormulas as spec;
@@ -12,7 +12,7 @@ use ut_logic::{Formula, Item, any_of, not_of};
 
 /// The mode of the choice is y.
 fn mode(choice: u32) -> Formula
-    ensures { result ≡ Formula.Is (Item.ModeY choice) }
+    ensures { result ≡ spec.in_mode_y choice }
 {
     Formula::Is(Item::ModeY(choice))
 }
@@ -33,7 +33,7 @@ fn not_y(alloc: Global, member: u32) -> Result<Formula, AllocError>
 
 /// The mode isn't y.
 fn not_mode(alloc: Global, choice: u32) -> Result<Formula, AllocError>
-    ensures { IfOk result (λ f. f ≡ fold.not_of (Formula.Is (Item.ModeY choice))) }
+    ensures { IfOk result (λ f. f ≡ fold.not_of (spec.in_mode_y choice)) }
 {
     not_of(alloc, mode(choice))
 }
@@ -102,7 +102,7 @@ impl<'a> Scope<'a> {
     /// Mode y only where the choice is visible.
     fn mode_only(&self, alloc: Global, choice: u32) -> Result<Formula, AllocError>
         requires { choice < length self.now.shape.choices }
-        ensures { IfOk result (λ f. f ≡ fold.any_of (fold.not_of (Formula.Is (Item.ModeY choice)) ∷ spec.choice_seen self.now choice ∷ [])) }
+        ensures { IfOk result (λ f. f ≡ spec.mode_only (spec.choice_seen self.now choice) (spec.in_mode_y choice)) }
     {
         let off = not_mode(alloc, choice)?;
         let seen = self.choice_seen(alloc, choice)?;
@@ -112,7 +112,7 @@ impl<'a> Scope<'a> {
     /// Mode y where the choice is visible.
     fn mode_there(&self, alloc: Global, choice: u32) -> Result<Formula, AllocError>
         requires { choice < length self.now.shape.choices }
-        ensures { IfOk result (λ f. f ≡ fold.any_of (fold.not_of (spec.choice_seen self.now choice) ∷ Formula.Is (Item.ModeY choice) ∷ [])) }
+        ensures { IfOk result (λ f. f ≡ spec.mode_there (spec.choice_seen self.now choice) (spec.in_mode_y choice)) }
     {
         let unseen = not_of(alloc, self.choice_seen(alloc, choice)?)?;
         Ok(any_of(vec![in alloc; unseen, mode(choice)]?))
@@ -121,7 +121,7 @@ impl<'a> Scope<'a> {
     /// When the mode of a choice is y.
     fn mode_holds(&self, alloc: Global, choice: u32) -> Result<Vec<Formula>, AllocError>
         requires { choice < length self.now.shape.choices }
-        ensures { IfOk result (λ v. v.items ≡ spec.mode_holds (choice_at self.now.shape choice).optional (spec.choice_seen self.now choice) (Formula.Is (Item.ModeY choice))) }
+        ensures { IfOk result (λ v. v.items ≡ spec.mode_holds (choice_at self.now.shape choice).optional (spec.choice_seen self.now choice) (spec.in_mode_y choice)) }
     {
         let only = self.mode_only(alloc, choice)?;
         if self.tree().optional(choice) {
@@ -140,7 +140,7 @@ impl<'a> Scope<'a> {
         holds: &mut Vec<Formula>,
     ) -> Result<(), AllocError>
         requires { member < length self.now.shape.symbols }
-        ensures { OnOk result (holds.new.items ≡ holds.old.items ++ spec.member_holds (spec.seen self.now) (Formula.Is (Item.ModeY choice)) member) }
+        ensures { OnOk result (holds.new.items ≡ holds.old.items ++ spec.member_holds (spec.seen self.now) (spec.in_mode_y choice) member) }
     {
         let off = not_y(alloc, member)?;
         holds.push(any_of(vec![in alloc; off, mode(choice)]?))?;
@@ -159,7 +159,7 @@ impl<'a> Scope<'a> {
         holds: &mut Vec<Formula>,
     ) -> Result<(), AllocError>
         requires { All (λ j. j < length self.now.shape.symbols) members.now }
-        ensures { OnOk result (holds.new.items ≡ holds.old.items ++ spec.members_hold (spec.seen self.now) (Formula.Is (Item.ModeY choice)) members.now) }
+        ensures { OnOk result (holds.new.items ≡ holds.old.items ++ spec.members_hold (spec.seen self.now) (spec.in_mode_y choice) members.now) }
     {
         for member in members {
             self.add_member(alloc, choice, *member, holds)?;
@@ -176,7 +176,7 @@ impl<'a> Scope<'a> {
         member: u32,
     ) -> Result<Formula, AllocError>
         requires { member < length self.now.shape.symbols }
-        ensures { IfOk result (λ f. f ≡ spec.some_holds (spec.seen self.now) (Formula.Is (Item.ModeY choice)) members.now member) }
+        ensures { IfOk result (λ f. f ≡ spec.some_holds (spec.seen self.now) (spec.in_mode_y choice) members.now member) }
     {
         let off = not_mode(alloc, choice)?;
         let unseen = not_of(alloc, self.seen(alloc, member)?)?;
@@ -194,7 +194,7 @@ impl<'a> Scope<'a> {
         holds: &mut Vec<Formula>,
     ) -> Result<(), AllocError>
         requires { All (λ j. j < length self.now.shape.symbols) members.now }
-        ensures { OnOk result (holds.new.items ≡ holds.old.items ++ map (spec.some_holds (spec.seen self.now) (Formula.Is (Item.ModeY choice)) members.now) members.now) }
+        ensures { OnOk result (holds.new.items ≡ holds.old.items ++ map (spec.some_holds (spec.seen self.now) (spec.in_mode_y choice) members.now) members.now) }
     {
         for member in members {
             holds.push(self.some_y(alloc, choice, members, *member)?)?;

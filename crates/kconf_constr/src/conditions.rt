@@ -1,13 +1,10 @@
 //! The formulas of a condition.
 
-ghost use Rattle.std.specs.Prelude.{◌≡◌, ◌==◌, Bool, not, IfOk};
-ghost use Rattle.ut_logic.specs.declared.item.Item as one;
-ghost use Rattle.ut_logic.specs.Truth.{truth};
+ghost use Rattle.std.specs.Prelude.{◌≡◌, IfOk};
 ghost use Rattle.kconf_tree.specs.declared.place.Place.TheVariants.{Condition};
-ghost use Rattle.kconf_tree.specs.Value.{value_of};
 ghost use Rattle.kconf_constr.specs.Scope.{IsRising, whole, with_free};
 ghost use Rattle.kconf_constr.specs.Halves.{halves};
-ghost use Rattle.kconf_constr.specs.Stands.{configuration_of};
+ghost use Rattle.kconf_constr.specs.Meaning.{SaysNotN, SaysY};
 
 use crate::half::Half;
 use crate::scope::Scope;
@@ -19,7 +16,7 @@ use ut_logic::{Formula, Text};
 /// That a condition isn't n, where every undeclared name is n. The only error is want of memory.
 pub fn not_n(alloc: Global, tree: &Tree, e: &Expr) -> Result<Formula, AllocError>
     ensures formula { IfOk result (λ f. f ≡ (halves (whole tree.now.shape) Condition e.now).not_n) }
-    ensures means { IfOk result (λ f. (v : one.Item → Bool) → truth v f ≡ not (value_of tree.now.shape (configuration_of (whole tree.now.shape) v) e.now == 0)) }
+    ensures means { IfOk result (SaysNotN (whole tree.now.shape) e.now) }
 {
     Scope::whole(tree).half_in(alloc, Place::Condition, e, Half::NotN)
 }
@@ -27,7 +24,7 @@ pub fn not_n(alloc: Global, tree: &Tree, e: &Expr) -> Result<Formula, AllocError
 /// That a condition is y, where every undeclared name is n. The only error is want of memory.
 pub fn is_y(alloc: Global, tree: &Tree, e: &Expr) -> Result<Formula, AllocError>
     ensures formula { IfOk result (λ f. f ≡ (halves (whole tree.now.shape) Condition e.now).is_y) }
-    ensures means { IfOk result (λ f. (v : one.Item → Bool) → truth v f ≡ (value_of tree.now.shape (configuration_of (whole tree.now.shape) v) e.now == 2)) }
+    ensures means { IfOk result (SaysY (whole tree.now.shape) e.now) }
 {
     Scope::whole(tree).half_in(alloc, Place::Condition, e, Half::IsY)
 }
@@ -42,7 +39,7 @@ pub fn free_not_n(
 ) -> Result<Formula, AllocError>
     requires { IsRising undeclared.now }
     ensures formula { IfOk result (λ f. f ≡ (halves (with_free tree.now.shape undeclared.now) Condition e.now).not_n) }
-    ensures means { IfOk result (λ f. (v : one.Item → Bool) → truth v f ≡ not (value_of tree.now.shape (configuration_of (with_free tree.now.shape undeclared.now) v) e.now == 0)) }
+    ensures means { IfOk result (SaysNotN (with_free tree.now.shape undeclared.now) e.now) }
 {
     Scope::with_free(tree, undeclared).half_in(alloc, Place::Condition, e, Half::NotN)
 }

@@ -1,14 +1,10 @@
-ghost use Rattle.std.specs.Prelude.{◌≡◌, ◌↔◌, ◌<◌, ◌≤◌, ◌++◌, All, Bool, IfOk, OnOk, length, map};
+ghost use Rattle.std.specs.Prelude.{◌≡◌, ◌<◌, ◌++◌, All, IfOk, OnOk, length, map};
 ghost use Rattle.std.specs.List.{range_with_len};
-ghost use Rattle.ut_logic.specs.declared.item.Item as one;
 ghost use Rattle.ut_logic.specs.declared.node.Node.TheVariants as node;
-ghost use Rattle.ut_logic.specs.Facts.{MeetsAll};
-ghost use Rattle.kconf_tree.specs.Valid.{IsValid, KeepsRules};
 ghost use Rattle.kconf_constr.specs.Scope.{IsRising, whole, with_free};
 ghost use Rattle.kconf_constr.specs.FactsOf as spec;
-ghost use Rattle.kconf_constr.specs.Stands.{configuration_of};
 ghost use Rattle.kconf_constr.specs.Closed.{IsClosed};
-ghost use Rattle.kconf_constr.specs.Meaning.{HasBoolChoices, HaveOneValue, SaysRight};
+ghost use Rattle.kconf_constr.specs.Meaning.{HasBoolChoices, SayRules, SayValid, SaysRight};
 
 use crate::items::{own_items, with_loose};
 use crate::scope::Scope;
@@ -130,7 +126,7 @@ pub fn constraints(alloc: Global, tree: &Tree) -> Result<Facts, AllocError>
     ensures facts { IfOk result (λ f. f.list ≡ spec.facts_of (whole tree.now.shape)) }
     ensures closed { IfOk result (λ f. All (IsClosed tree.now.shape) f.list) }
     ensures means { HasBoolChoices tree.now.shape → IfOk result (λ f. All (SaysRight (whole tree.now.shape)) f.list) }
-    ensures valid { HasBoolChoices tree.now.shape → IfOk result (λ f. (v : one.Item → Bool) → MeetsAll v f.list ↔ (HaveOneValue tree.now.shape v × IsValid tree.now.shape (configuration_of (whole tree.now.shape) v))) }
+    ensures valid { HasBoolChoices tree.now.shape → IfOk result (λ f. SayValid tree.now.shape f.list) }
 {
     let _order = tree.order();
     Scope::whole(tree).facts(alloc)
@@ -147,7 +143,7 @@ pub fn free_constraints(
     ensures facts { IfOk result (λ f. f.list ≡ spec.facts_of (with_free tree.now.shape undeclared.now)) }
     ensures closed { IfOk result (λ f. All (IsClosed tree.now.shape) f.list) }
     ensures means { HasBoolChoices tree.now.shape → IfOk result (λ f. All (SaysRight (with_free tree.now.shape undeclared.now)) f.list) }
-    ensures valid { HasBoolChoices tree.now.shape → IfOk result (λ f. (v : one.Item → Bool) → MeetsAll v f.list ↔ (HaveOneValue tree.now.shape v × KeepsRules tree.now.shape (configuration_of (with_free tree.now.shape undeclared.now) v))) }
+    ensures valid { HasBoolChoices tree.now.shape → IfOk result (λ f. SayRules (with_free tree.now.shape undeclared.now) f.list) }
 {
     let _order = tree.order();
     Scope::with_free(tree, undeclared).facts(alloc)

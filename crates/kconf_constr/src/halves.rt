@@ -1,6 +1,6 @@
 //! The two formulas of an expression.
 
-ghost use Rattle.std.specs.Prelude.{◌≡◌, ◌<◌, ◌∷◌, [], IfOk, length, map};
+ghost use Rattle.std.specs.Prelude.{◌≡◌, ◌<◌, IfOk, length, map};
 ghost use Rattle.ut_logic.specs.Fold as fold;
 ghost use Rattle.kconf_constr.specs.Halves as spec;
 
@@ -139,7 +139,7 @@ impl<'a> Scope<'a> {
 
     /// That both sides are y.
     fn both_y(&self, alloc: Global, left: &Side, right: &Side) -> Result<Formula, AllocError>
-        ensures { IfOk result (λ f. f ≡ fold.all_of ((spec.side_halves self.now left.now).is_y ∷ (spec.side_halves self.now right.now).is_y ∷ [])) }
+        ensures { IfOk result (λ f. f ≡ spec.both_y (spec.side_halves self.now left.now) (spec.side_halves self.now right.now)) }
     {
         let left = self.side_half(alloc, left, Half::IsY)?;
         let right = self.side_half(alloc, right, Half::IsY)?;
@@ -148,7 +148,7 @@ impl<'a> Scope<'a> {
 
     /// That both sides are n.
     fn both_n(&self, alloc: Global, left: &Side, right: &Side) -> Result<Formula, AllocError>
-        ensures { IfOk result (λ f. f ≡ fold.all_of (fold.not_of (spec.side_halves self.now left.now).not_n ∷ fold.not_of (spec.side_halves self.now right.now).not_n ∷ [])) }
+        ensures { IfOk result (λ f. f ≡ spec.both_n (spec.side_halves self.now left.now) (spec.side_halves self.now right.now)) }
     {
         let left = self.side_not(alloc, left, Half::NotN)?;
         let right = self.side_not(alloc, right, Half::NotN)?;
@@ -157,7 +157,7 @@ impl<'a> Scope<'a> {
 
     /// That both sides are m.
     fn both_m(&self, alloc: Global, left: &Side, right: &Side) -> Result<Formula, AllocError>
-        ensures { IfOk result (λ f. f ≡ fold.all_of ((spec.side_halves self.now left.now).not_n ∷ fold.not_of (spec.side_halves self.now left.now).is_y ∷ (spec.side_halves self.now right.now).not_n ∷ fold.not_of (spec.side_halves self.now right.now).is_y ∷ [])) }
+        ensures { IfOk result (λ f. f ≡ spec.both_m (spec.side_halves self.now left.now) (spec.side_halves self.now right.now)) }
     {
         let left_some = self.side_half(alloc, left, Half::NotN)?;
         let left_below = self.side_not(alloc, left, Half::IsY)?;
