@@ -1,10 +1,8 @@
 -- What the limits and the search for an order say of entries.
-use Rattle.std.proofs.Common.{◌≡◌, ℕ, Option, None, List, length, map, ap, sym, ◌∙◌}
+use Rattle.std.proofs.Common.{◌≡◌, ℕ, Option, None, length, ap, sym, ◌∙◌}
 use Rattle.std.specs.Option.{option_or}
 use Rattle.ut_base.specs.declared.limits.Limit.TheVariants.{Symbols}
 use Rattle.kconf_parse.specs.declared.entries.Entries.{Entries}
-use Rattle.kconf_tree.specs.declared.shape.Symbol.{Symbol}
-use Rattle.kconf_tree.specs.declared.shape.Choice.{Choice}
 use Rattle.kconf_tree.specs.declared.limits.Passed.{Passed}
 use Rattle.kconf_tree.specs.declared.bad.TreeBad.{TreeBad}
 use Rattle.kconf_tree.specs.declared.bad.TreeBad.TheVariants.{TooMany, Recursive, Oom}

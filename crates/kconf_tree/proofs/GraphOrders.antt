@@ -1,17 +1,16 @@
 -- An order of a tree's graph is one of its nodes: each stands once, and after all that it refers to.
-use Rattle.std.proofs.Common.{◌≡◌, ℕ, zero, suc, ◌+◌, ◌<◌, ◌≤◌, ◌==◌, Bool, true, false, not, ◌&&◌, ◌||◌, cond, List, [], ◌∷◌, ◌++◌, map, length, take, get_or, refl, ap, sym, ◌∙◌, subst, arith, rules, append_assoc, length-append, ◌⊎◌, inl, inr}
+use Rattle.std.proofs.Common.{◌≡◌, ℕ, zero, suc, ◌+◌, ◌<◌, Bool, true, false, not, ◌||◌, cond, List, [], ◌∷◌, ◌++◌, map, length, take, get_or, refl, ap, sym, ◌∙◌, subst, arith, append_assoc, length-append, inl, inr}
 use Rattle.std.proofs.lemmas.Bool.{false≢true}
-use Rattle.std.specs.List.{list_any, position_or_len, range_with_len, All, Contains}
+use Rattle.std.specs.List.{list_any, position_or_len, Contains}
 use Rattle.std.proofs.lemmas.List.Elements.{All-contains, Contains-append_left, Contains-append_right, Contains-append_cases}
 use Rattle.ut_logic.specs.declared.node.Node.{Node}
-use Rattle.ut_logic.specs.declared.node.Node.TheVariants.{Sym, Choice}
+use Rattle.ut_logic.specs.declared.node.Node.TheVariants.{Sym}
 use Rattle.ut_logic.specs.Node.{node_eq}
 use Rattle.ut_logic.specs.NodeIdentity.{node_eq-Decides}
 use Rattle.kconf_tree.specs.Shape.{Shape}
 use Rattle.kconf_tree.specs.Apart.{AreApart}
-use Rattle.kconf_tree.specs.References.{node_of, references_of}
-use Rattle.kconf_tree.specs.Graph.{refers_of, IsInOrder, IsOrder as IsGraphOrder}
-use Rattle.kconf_tree.specs.Gathered.{distinct}
+use Rattle.kconf_tree.specs.References.{references_of}
+use Rattle.kconf_tree.specs.Graph.{refers_of, IsOrder as IsGraphOrder}
 use Rattle.kconf_tree.specs.Orders.{nodes_of, place_of, node_at, graph_of}
 use Rattle.kconf_tree.proofs.Small.{or_left, or_right, or_cases, is_off}
 use Rattle.kconf_tree.proofs.OrderLaws.{among, Within, Ordered}

@@ -21,7 +21,7 @@ pub mod ValueLaws
 pub mod RightLaws
 pub mod OrderLaws
 pub mod GraphOrders
-mod MadeLaws
+pub mod MadeLaws
 mod OrderNodes
 mod Words
 mod FeedLaws

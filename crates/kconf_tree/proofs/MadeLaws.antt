@@ -1,16 +1,15 @@
 -- A tree that is gathered from entries is well made, and the nodes of its order are its own.
-use Rattle.std.proofs.Common.{◌≡◌, ℕ, zero, suc, ◌+◌, ◌<◌, ◌≤◌, ◌^◌, ◌==◌, Bool, true, false, ◌||◌, cond, Option, None, Some, IfSome, List, [], ◌∷◌, ◌++◌, length, map, get_or, refl, ap, sym, subst, ◌∙◌, arith, rules, ◌⊎◌, inl, inr}
+use Rattle.std.proofs.Common.{◌≡◌, ℕ, zero, suc, ◌+◌, ◌<◌, ◌≤◌, ◌==◌, Bool, true, false, ◌||◌, cond, Option, None, Some, IfSome, List, [], ◌∷◌, length, get_or, refl, ap, sym, subst, ◌∙◌, arith, inl, inr}
 use Rattle.std.proofs.lemmas.Bool.{false≢true, cases_lt}
 use Rattle.std.proofs.lemmas.Bool.Decides.{nat_tests}
-use Rattle.std.specs.List.{list_any, flat_map, range_with_len, All}
+use Rattle.std.specs.List.{list_any}
 use Rattle.std.proofs.lemmas.List.Elements.{All-get_or}
 use Rattle.kconf_parse.specs.declared.entries.ConfigEntry.{ConfigEntry}
 use Rattle.kconf_parse.specs.declared.entries.ChoiceEntry.{ChoiceEntry}
 use Rattle.kconf_parse.specs.declared.entries.Entries.{Entries}
 use Rattle.kconf_tree.specs.declared.shape.Symbol.{Symbol}
-use Rattle.kconf_tree.specs.declared.shape.Choice.{Choice as OneChoice}
 use Rattle.kconf_tree.specs.Shape.{Shape, symbol_at, choice_at, no_symbol, no_choice, is_the}
-use Rattle.kconf_tree.specs.Gathered.{gathered, symbols_of, choices_from, choice_of, places_from, is_member_of}
+use Rattle.kconf_tree.specs.Gathered.{gathered, symbols_of, choices_from, places_from, is_member_of}
 use Rattle.kconf_tree.specs.Apart.{AreApart}
 use Rattle.kconf_tree.specs.Built.{HaveChoices}
 use Rattle.kconf_tree.proofs.Bounds.{members_below}

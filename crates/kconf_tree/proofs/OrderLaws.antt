@@ -1,6 +1,6 @@
 -- An order lets each node be settled after all that it refers to. What a node is, what it holds and what
 -- makes it right is left open here.
-use Rattle.std.proofs.Common.{◌≡◌, ℕ, Bool, true, false, ◌||◌, cond, List, [], ◌∷◌, refl, ap, sym, ◌∙◌, subst, arith, rules}
+use Rattle.std.proofs.Common.{◌≡◌, Bool, true, false, ◌||◌, cond, List, [], ◌∷◌, refl, ap, sym, ◌∙◌, subst}
 use Rattle.std.specs.List.{list_any}
 use Rattle.kconf_tree.proofs.Small.{or_left, or_right}
 

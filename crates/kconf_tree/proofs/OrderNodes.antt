@@ -1,7 +1,7 @@
 -- The nodes of a tree's order are its own.
-use Rattle.std.proofs.Common.{◌≡◌, ℕ, zero, suc, ◌+◌, ◌<◌, ◌≤◌, ◌==◌, Bool, true, false, not, cond, Option, None, Some, List, [], ◌∷◌, ◌++◌, length, map, get_or, refl, ap, sym, subst, ◌∙◌, arith, rules, ◌⊎◌, inl, inr}
+use Rattle.std.proofs.Common.{◌≡◌, ℕ, zero, suc, ◌+◌, ◌<◌, ◌≤◌, ◌==◌, Bool, true, false, not, cond, Option, None, Some, List, [], ◌∷◌, length, map, get_or, refl, sym, subst, arith, inl, inr}
 use Rattle.std.proofs.lemmas.Bool.{false≢true, cases_lt}
-use Rattle.std.specs.List.{list_any, flat_map, range_with_len, All}
+use Rattle.std.specs.List.{flat_map, range_with_len, All}
 use Rattle.std.proofs.lemmas.List.Elements.{All-nil, All-cons, All-head, All-tail, All-append, All-map, All-get_or, All-weaker, All-filter}
 use Rattle.ut_logic.specs.declared.node.Node.{Node}
 use Rattle.ut_logic.specs.declared.node.Node.TheVariants.{Sym, Choice, Block, State}
@@ -13,7 +13,6 @@ use Rattle.kconf_tree.specs.Arranged.{Arranged}
 use Rattle.kconf_tree.specs.Built.{HaveChoices}
 use Rattle.kconf_tree.specs.Gathered.{distinct, gathered}
 use Rattle.kconf_tree.specs.References.{node_by, node_of}
-use Rattle.kconf_tree.specs.Graph.{IsOrder as IsGraphOrder}
 use Rattle.kconf_tree.specs.Orders.{nodes_of, node_at, graph_of, with_members, empty_choices, IsOrder}
 use Rattle.kconf_tree.proofs.Small.{or_left, or_right, number_self}
 use Rattle.kconf_tree.proofs.GraphOrders.{length-graph}

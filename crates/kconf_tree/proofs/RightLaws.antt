@@ -1,6 +1,6 @@
 -- A symbol is right exactly where it has the value that it has without a user's setting, or with its own
 -- value as the setting; and one setting for all symbols is one for each.
-use Rattle.std.proofs.Common.{◌≡◌, ℕ, ◌≤◌, ◌<◌, ◌==◌, Bool, true, false, ◌||◌, cond, refl, ap, sym, subst, ◌∙◌, arith, length, Option, None, Some, ◌⊎◌, inl, inr}
+use Rattle.std.proofs.Common.{◌≡◌, ℕ, ◌≤◌, ◌<◌, ◌==◌, Bool, true, false, cond, refl, sym, subst, arith, length, Option, None, Some, ◌⊎◌, inl, inr}
 use Rattle.std.proofs.lemmas.Grind.{common_steps}
 use Rattle.std.proofs.lemmas.Bool.Decides.{nat_tests}
 use Rattle.std.proofs.lemmas.Bool.{cases_lt}
@@ -9,7 +9,7 @@ use Rattle.kconf_tree.specs.declared.shape.Counts.TheVariants as counts
 use Rattle.kconf_tree.specs.Shape.{Shape, counts_as, is_member}
 use Rattle.kconf_tree.specs.Value.{Configuration, has_modules}
 use Rattle.kconf_tree.specs.Properties.{visibility_of, reverse_of, default_of}
-use Rattle.kconf_tree.specs.Valid.{calculate, calculated_of, Fits, HasValueBy, IsSettingOf}
+use Rattle.kconf_tree.specs.Valid.{calculate, Fits, HasValueBy, IsSettingOf}
 use Rattle.kconf_tree.specs.Right.{IsRight, is_settled, is_right}
 use Rattle.kconf_tree.proofs.Small.{on_three, at_three, or_cases, number_is}
 

@@ -1,6 +1,5 @@
 -- The value of an expression depends on the symbols alone that it asks for.
-use Rattle.std.proofs.Common.{◌≡◌, ℕ, ◌-◌, ◌==◌, Bool, true, false, not, cond, List, [], ◌∷◌, ◌++◌, map, refl, ap, sym, subst, ◌∙◌, arith, rules, Option, None, Some}
-use Rattle.std.proofs.lemmas.Grind.{common_steps}
+use Rattle.std.proofs.Common.{◌≡◌, ℕ, ◌-◌, ◌==◌, Bool, true, false, not, cond, List, [], ◌∷◌, ◌++◌, map, refl, ap, subst, ◌∙◌, Option, None, Some}
 use Rattle.std.specs.List.{flat_map}
 use Rattle.std.specs.Option.{option_to_list}
 use Rattle.ut_logic.specs.declared.trit.Trit.{Trit}
@@ -15,7 +14,7 @@ use Rattle.kconf_parse.specs.declared.expr.Expr.TheFolds.{fold-roll-Expr, map-Ex
 use Rattle.kconf_tree.specs.Shape.{Shape, number_of, outer_at, counts_as}
 use Rattle.kconf_tree.specs.declared.place.Place.{Place}
 use Rattle.kconf_tree.specs.declared.place.Place.TheVariants.{Condition, Value}
-use Rattle.kconf_tree.specs.Value.{Configuration, value_in, value_step, name_value, named, side_value, const_value, compared, compares_trits, comparison_text, outer_value, least, greatest, has_modules, stands_for}
+use Rattle.kconf_tree.specs.Value.{Configuration, value_in, value_step, named, side_value, const_value, compared, compares_trits, comparison_text, outer_value, least, greatest, has_modules, stands_for}
 use Rattle.kconf_tree.specs.References.{numbers_in, numbers_step, side_numbers, const_numbers}
 
 -- the configurations have the same value at each number of the list

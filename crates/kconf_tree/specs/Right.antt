@@ -1,7 +1,7 @@
 -- Which symbols are right under a configuration: some user's setting, or none, gives the symbol its own
 -- value by calculation.
 -- Rule: Linux kconfig-language, "Menu attributes".
-use Rattle.std.specs.Prelude.{◌≡◌, ℕ, ◌==◌, Bool, ◌||◌, Option, None, Some}
+use Rattle.std.specs.Prelude.{ℕ, ◌==◌, Bool, ◌||◌, Option, None, Some}
 use Rattle.kconf_tree.specs.declared.shape.Counts.{Counts}
 use Rattle.kconf_tree.specs.Shape.{Shape, counts_as}
 use Rattle.kconf_tree.specs.Value.{Configuration, has_modules}

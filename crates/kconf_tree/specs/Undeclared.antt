@@ -45,10 +45,11 @@ undeclared_step t (Expr-F.Or lists) = flat_map (λ names. names) lists
 abbrev pub undeclared_in : Shape → Expr → List (List ℕ)
 undeclared_in t = fold-Expr (List (List ℕ)) (undeclared_step t)
 
--- of a default, and of selects, implies or choice defaults
+-- of a default
 abbrev pub undeclared_of_default : Shape → DefaultOf → List (List ℕ)
 undeclared_of_default t d = undeclared_in t d.value ++ undeclared_in t d.cond
 
+-- of selects, implies or choice defaults
 abbrev pub undeclared_of_conditions : Shape → List SelectOf → List (List ℕ)
 undeclared_of_conditions t = flat_map (λ (s : SelectOf). undeclared_in t s.cond)
 

@@ -32,6 +32,8 @@ mod parts_graph;
 mod place;
 mod references;
 mod shape;
+#[cfg(test)]
+mod tests;
 mod tree;
 mod types;
 

@@ -1,5 +1,4 @@
 ghost use Rattle.std.specs.Prelude.{◌≡◌, Some, None, length, map};
-ghost use Rattle.std.specs.Option.{option_or};
 ghost use Rattle.kconf_tree.specs.Limits as spec;
 ghost use Rattle.kconf_tree.specs.declared.shape.Choice as one_choice;
 ghost use Rattle.kconf_tree.specs.declared.shape.Symbol as one_symbol;

@@ -1,4 +1,4 @@
-ghost use Rattle.std.specs.Prelude.{◌≡◌, ◌<◌, ◌≤◌, ◌^◌, length, slice_index_or, All, IfSome, []};
+ghost use Rattle.std.specs.Prelude.{◌≡◌, ◌<◌, ◌≤◌, length, slice_index_or, All, IfSome, []};
 ghost use Rattle.ut_logic.specs.Text.{text_eq};
 ghost use Rattle.kconf_tree.specs.Shape as spec;
 ghost use Rattle.kconf_tree.specs.Apart.{AreApart, names_in};

@@ -1,5 +1,4 @@
-use Rattle.std.proofs.Common.{◌≡◌, ◌++◌, ◌∙◌, true, false, Bool, [], List, ℕ, ap, sym, length}
-use Rattle.std.proofs.lemmas.List.{append-nil}
+use Rattle.std.proofs.Common.{◌∙◌}
 use Rattle.kconf_tree.specs.Feeding.{asked_text}
 use Rattle.kconf_tree.proofs.Words.{not_text, is_whole}
 use Rattle.kconf_tree.proofs.asked_comparison.AskedComparison.is_text.Goals as goal

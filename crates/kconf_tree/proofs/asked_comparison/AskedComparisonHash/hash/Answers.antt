@@ -1,4 +1,4 @@
-use Rattle.std.proofs.Common.{◌≡◌, ◌++◌, ◌∷◌, [], List, ℕ, fold, ap, ◌∙◌}
+use Rattle.std.proofs.Common.{◌++◌, ◌∷◌, [], List, ℕ, fold, ap, ◌∙◌}
 use Rattle.kconf_tree.specs.Feeding.{byte_writes, spelled_text}
 use Rattle.kconf_tree.proofs.FeedLaws.{fed_bytes}
 use Rattle.kconf_tree.proofs.asked_comparison.AskedComparisonHash.hash.Goals as goal

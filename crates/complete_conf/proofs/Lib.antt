@@ -1,0 +1,11 @@
+mod LimitsSame
+mod PickLaws
+mod ChoiceLaws
+mod NodeLaws
+mod PartLaws
+mod Rules
+mod Extremes
+mod Finding
+mod Picked
+mod ValidLaws
+mod Lines

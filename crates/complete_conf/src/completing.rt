@@ -1,0 +1,123 @@
+ghost use Rattle.std.specs.Prelude.{◌≡◌, ◌<◌, ◌∷◌, [], length, All};
+ghost use Rattle.ut_logic.specs.Trit.{rank};
+ghost use Rattle.kconf_tree.specs.Valid.{IsValid};
+ghost use Rattle.complete_conf.specs.Completion.{completed, with_choice, with_node, with_symbol};
+ghost use Rattle.complete_conf.specs.Config.{configuration_of, FitsTree};
+ghost use Rattle.complete_conf.specs.Inner.{HaveValues, KeepsLengths, with_free_mode, with_picked};
+ghost use Rattle.kconf_tree.specs.Made.{IsNodeOf, IsWellMade};
+ghost use Rattle.complete_conf.specs.Parts.{part_of, IsClosedPart, IsKeptBy, IsRightPart};
+
+use crate::calculating::calculated;
+use crate::choosing::{free_mode, member_value, picked_in};
+use crate::config::{Config, Known};
+use kconf_tree::Tree;
+use ut_logic::{Node, Trit};
+
+/// Gives a member its value, if it isn't known.
+fn complete_member(config: &mut Config, known: &Known, picked: Option<u32>, member: u32)
+    ensures value { HaveValues config.old (member ∷ []) → configuration_of config.new ≡ with_picked (part_of known.now) (configuration_of config.old) picked (member ∷ []) }
+    ensures lengths { KeepsLengths config.old config.new }
+{
+    if !known.symbol(member) && (member as usize) < config.values.len() {
+        config.set_value(member, member_value(picked, member));
+    }
+}
+
+/// Gives the members that aren't known their values.
+fn complete_members(config: &mut Config, known: &Known, picked: Option<u32>, members: &[u32])
+    ensures value { HaveValues config.old members.now → configuration_of config.new ≡ with_picked (part_of known.now) (configuration_of config.old) picked members.now }
+    ensures lengths { KeepsLengths config.old config.new }
+{
+    for member in members {
+        complete_member(config, known, picked, *member);
+    }
+}
+
+/// Gives a choice its mode, if it isn't known.
+fn complete_mode(config: &mut Config, known: &Known, choice: u32, mode: Trit)
+    requires { choice < length config.old.modes }
+    ensures value { configuration_of config.new ≡ with_free_mode (part_of known.now) (configuration_of config.old) choice (rank mode) }
+    ensures lengths { KeepsLengths config.old config.new }
+{
+    if !known.choice(choice) {
+        config.set_mode(choice, mode);
+    }
+}
+
+/// Gives a choice and its members what they have without a user's setting, where it isn't known.
+fn complete_choice(tree: &Tree, config: &mut Config, known: &Known, choice: u32)
+    requires choice { choice < length tree.now.shape.choices }
+    requires fits { FitsTree tree.now.shape config.old }
+    ensures value { IsWellMade tree.now.shape → configuration_of config.new ≡ with_choice tree.now.shape (part_of known.now) (configuration_of config.old) choice }
+    ensures lengths { KeepsLengths config.old config.new }
+{
+    let mode = free_mode(tree, config, choice);
+    let picked = picked_in(tree, config, choice, mode);
+    complete_mode(config, known, choice, mode);
+    complete_members(config, known, picked, tree.members(choice));
+}
+
+/// Gives a symbol its calculated value, where it is no member and isn't known.
+fn complete_symbol(tree: &Tree, config: &mut Config, known: &Known, sym: u32)
+    requires sym { sym < length tree.now.shape.symbols }
+    requires fits { FitsTree tree.now.shape config.old }
+    ensures value { configuration_of config.new ≡ with_symbol tree.now.shape (part_of known.now) (configuration_of config.old) sym }
+    ensures lengths { KeepsLengths config.old config.new }
+{
+    match tree.member_of(sym) {
+        Some(_) => {}
+        None => {
+            if !known.symbol(sym) {
+                let value = calculated(tree, config, sym);
+                config.set_value(sym, value);
+            }
+        }
+    }
+}
+
+/// Gives a node of the order what it has without a user's setting, where it isn't known.
+fn complete_node(tree: &Tree, config: &mut Config, known: &Known, node: Node)
+    requires { FitsTree tree.now.shape config.old }
+    ensures value { IsWellMade tree.now.shape → IsNodeOf tree.now.shape node → configuration_of config.new ≡ with_node tree.now.shape (part_of known.now) (configuration_of config.old) node }
+    ensures lengths { KeepsLengths config.old config.new }
+{
+    match node {
+        Node::Sym(sym) => {
+            if sym < tree.symbols() {
+                complete_symbol(tree, config, known, sym);
+            }
+        }
+        Node::Choice(choice) => {
+            if choice < tree.choices() {
+                complete_choice(tree, config, known, choice);
+            }
+        }
+        _ => {}
+    }
+}
+
+/// Gives each of the nodes that isn't known what it has without a user's setting.
+fn complete_nodes(tree: &Tree, config: &mut Config, known: &Known, nodes: &[Node])
+    requires made { IsWellMade tree.now.shape }
+    requires within { All (IsNodeOf tree.now.shape) nodes.now }
+    requires fits { FitsTree tree.now.shape config.old }
+    ensures value { configuration_of config.new ≡ completed tree.now.shape (part_of known.now) (configuration_of config.old) nodes.now }
+    ensures lengths { KeepsLengths config.old config.new }
+{
+    for node in nodes {
+        complete_node(tree, config, known, *node);
+    }
+}
+
+/// Completes a configuration: what is known stays, and every other symbol and choice gets, in the tree's
+/// order, the value or mode that it has without a user's setting under what is there by then. A choice
+/// and its members come as one.
+pub fn complete(tree: &Tree, config: &mut Config, known: &Known)
+    requires fits { FitsTree tree.now.shape config.old }
+    ensures completed { configuration_of config.new ≡ completed tree.now.shape (part_of known.now) (configuration_of config.old) tree.now.order }
+    ensures kept { IsKeptBy (part_of known.now) (configuration_of config.old) (configuration_of config.new) }
+    ensures valid { IsClosedPart tree.now.shape (part_of known.now) → IsRightPart tree.now.shape (configuration_of config.old) (part_of known.now) → IsValid tree.now.shape (configuration_of config.new) }
+    ensures fits { FitsTree tree.now.shape config.new }
+{
+    complete_nodes(tree, config, known, tree.order());
+}

@@ -1,0 +1,47 @@
+ghost use Rattle.std.specs.Prelude.{◌≡◌, ◌<◌, length};
+ghost use Rattle.ut_logic.specs.Trit.{rank};
+ghost use Rattle.kconf_tree.specs.Properties as spec;
+ghost use Rattle.complete_conf.specs.Config.{configuration_of};
+
+use crate::config::Config;
+use crate::values::{greatest_of, value_in};
+use kconf_parse::DefaultOf;
+use kconf_tree::{Place, Tree};
+use ut_logic::{Trit, trit_and};
+
+/// The visibility of a symbol.
+pub fn visibility(tree: &Tree, config: &Config, sym: u32) -> Trit
+    requires { sym < length tree.now.shape.symbols }
+    ensures { rank result ≡ spec.visibility_of tree.now.shape (configuration_of config.now) sym }
+{
+    greatest_of(tree, config, Place::Condition, tree.prompts(sym))
+}
+
+/// The visibility of a choice.
+pub fn choice_visibility(tree: &Tree, config: &Config, choice: u32) -> Trit
+    requires { choice < length tree.now.shape.choices }
+    ensures { rank result ≡ spec.choice_visibility_of tree.now.shape (configuration_of config.now) choice }
+{
+    greatest_of(tree, config, Place::Condition, tree.choice_prompts(choice))
+}
+
+/// The value of the first default whose condition isn't n.
+fn first_default(tree: &Tree, config: &Config, defaults: &[DefaultOf]) -> Trit
+    ensures { rank result ≡ spec.first_default tree.now.shape (configuration_of config.now) defaults.now }
+{
+    for default in defaults {
+        let cond = value_in(tree, config, Place::Condition, &default.cond);
+        if cond != Trit::N {
+            return trit_and(value_in(tree, config, Place::Value, &default.value), cond);
+        }
+    }
+    Trit::N
+}
+
+/// The default of a symbol.
+pub fn default_value(tree: &Tree, config: &Config, sym: u32) -> Trit
+    requires { sym < length tree.now.shape.symbols }
+    ensures { rank result ≡ spec.default_of tree.now.shape (configuration_of config.now) sym }
+{
+    first_default(tree, config, tree.defaults(sym))
+}

@@ -1,0 +1,42 @@
+ghost use Rattle.std.specs.Prelude.{◌≡◌, ◌<◌, length, map, All};
+ghost use Rattle.ut_logic.specs.Trit.{rank};
+ghost use Rattle.kconf_tree.specs.Value as value;
+ghost use Rattle.kconf_tree.specs.Properties as spec;
+ghost use Rattle.kconf_tree.specs.declared.shape.Selector as one;
+ghost use Rattle.complete_conf.specs.Config.{configuration_of};
+
+use crate::config::Config;
+use crate::values::{own_value, value_in};
+use kconf_tree::{Place, Selector, Tree};
+use ut_logic::{Trit, trit_and, trit_or};
+
+/// How far a select raises its target.
+fn selected(tree: &Tree, config: &Config, selector: &Selector) -> Trit
+    requires { selector.now.by < length tree.now.shape.symbols }
+    ensures { rank result ≡ spec.selected_by tree.now.shape (configuration_of config.now) selector.now }
+{
+    trit_and(
+        own_value(tree, config, selector.by),
+        value_in(tree, config, Place::Condition, &selector.cond),
+    )
+}
+
+/// How far selects raise their target.
+fn raised(tree: &Tree, config: &Config, selectors: &[Selector]) -> Trit
+    requires { All (λ (s : one.Selector). s.by < length tree.now.shape.symbols) selectors.now }
+    ensures { rank result ≡ value.greatest (map (spec.selected_by tree.now.shape (configuration_of config.now)) selectors.now) }
+{
+    let mut greatest = Trit::N;
+    for selector in selectors {
+        greatest = trit_or(greatest, selected(tree, config, selector));
+    }
+    greatest
+}
+
+/// The reverse dependency of a symbol.
+pub fn reverse(tree: &Tree, config: &Config, sym: u32) -> Trit
+    requires { sym < length tree.now.shape.symbols }
+    ensures { rank result ≡ spec.reverse_of tree.now.shape (configuration_of config.now) sym }
+{
+    raised(tree, config, tree.selectors(sym))
+}
