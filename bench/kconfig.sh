@@ -1,77 +1,117 @@
 #!/bin/sh
-# Times the reading of a generated Kconfig tree (20,000 symbols in 1,500 texts) beside python3-kconfiglib's, where that is installed, and
-# beside that of a tenth of it; at most 13 times as long is the aim. Usage: bench/kconfig.sh. It builds a driver over copies of the crates
-# in a folder of its own.
+# Times the reading of Kconfig trees (`kconf_parse::read_tree`) beside python3-kconfiglib's, each best of several in the same run, and
+# prints both times and their ratio: on a generated tree of 20,000 symbols in 1,500 texts, and on the Kconfig texts of a kernel where
+# their folder is named, with macros that ask a compiler replaced by `y`, and without what one of the two doesn't read (`imply`,
+# `visible if`, choices of type tristate, `modules` without `option`). The first tree is also timed beside a tenth of it.
+# Usage: bench/kconfig.sh [FOLDER]; PYTHON names the Python that has kconfiglib, else it is python3.
 set -e
 here=$(cd "$(dirname "$0")/.." && pwd)
+[ -z "$1" ] || kernel=$(cd "$1" && pwd)
+python=${PYTHON:-python3}
 . "$here/bench/driver.sh"
-new_driver kconf_times 'indexmap sqlite_items thiserror' ut_base ut_logic kconf_parse
+. "$here/bench/kconfig_tree.sh"
+new_driver kconfig_times 'indexmap sqlite_items thiserror' ut_base ut_logic kconf_parse
 
-cat >crates/kconf_times/src/main.rt <<'END'
-//! Times the reading of the Kconfig tree of the root text that is named.
+cat >crates/kconfig_times/src/main.rt <<'RT'
+//! Times the reading of the Kconfig tree of each root text that is named, where `SRCARCH` is `x86`.
 #![tactic(auto)]
 
-use kconf_parse::read_tree;
-use std::env;
-use std::io;
+use kconf_parse::{Var, read_tree};
+use std::alloc::Global;
 use std::time::Instant;
+use std::{env, io};
 use ut_base::{DiskFiles, Meter, Name};
+use ut_logic::Text;
+
+/// Reads the tree once and prints the time.
+fn read(rt: HostRuntime, alloc: Global, root: &Name, vars: &[Var]) -> io::Result<()> {
+    let mut files = DiskFiles::new(&rt);
+    let mut meter = Meter::new();
+    let start = Instant::now(&rt)?;
+    let read = read_tree(alloc, &mut files, root, vars, &mut meter);
+    let micros = start.elapsed(&rt)?.as_micros();
+    match read {
+        Ok(entries) => println!(rt; "{} {}", micros, entries.configs.len()),
+        Err(bad) => println!(rt; "{bad}"),
+    }
+}
 
 fn main(rt: HostRuntime) -> io::Result<()> {
     let alloc = rt.alloc();
-    let words = env::args(&rt).and_then(|args| Ok(args.collect(alloc)?))?;
-    for word in words.iter().skip(1) {
-        let Some(root) = Name::new(alloc, word.as_str())? else {
-            return Ok(());
-        };
-        for _ in 0..9u32 {
-            let mut files = DiskFiles::new(&rt);
-            let mut meter = Meter::new();
-            let start = Instant::now(&rt)?;
-            let read = read_tree(alloc, &mut files, &root, &[], &mut meter);
-            let micros = start.elapsed(&rt)?.as_micros();
-            match read {
-                Ok(entries) => {
-                    println!(rt; "{} {} {}", micros, entries.configs.len(), meter.used())?;
-                }
-                Err(_) => println!(rt; "refused")?,
+    let name = Text::new(alloc, "SRCARCH")?;
+    let value = Text::new(alloc, "x86")?;
+    let vars = vec![in alloc; Var { name, value }]?;
+    for word in env::args(&rt)?.skip(1) {
+        if let Some(root) = Name::new(alloc, word.as_str())? {
+            for _ in 0..9u32 {
+                read(rt, alloc, &root, &vars)?;
             }
         }
     }
     Ok(())
 }
-END
+RT
+
+new_tree large 1500 20000
+new_tree small 150 2000
 build_driver
+program=$data/crates/kconfig_times/out/kconfig_times
 
-# tree FOLDER TEXTS SYMBOLS: a root text that sources the others from menus, each with SYMBOLS symbols.
-tree() {
-    mkdir -p "$1"
-    awk -v folder="$1" -v texts="$2" -v symbols="$3" 'BEGIN {
-        root = folder "/Kconfig"
-        for (t = 0; t < texts; t++) {
-            printf "menu \"m%d\"\n\tdepends on S%d_0 || !S0_1\n\nsource \"f%d\"\n\nendmenu\n", t, t % 7, t >root
-            text = folder "/f" t
-            for (s = 0; s < symbols; s++) {
-                printf "config S%d_%d\n\tbool \"symbol %d\" if S%d_1 && !S0_%d\n", t, s, s, t % 11, s >text
-                printf "\tdepends on (S%d_0 || S%d_1) && S%d_0 != n\n\tdefault y if S0_0\n", t % 5, t % 3, t % 13 >text
-                printf "\tselect S%d_%d if S0_0\n\thelp\n\t  A text of a few words.\n\n\t  And another one.\n\n", (t + 1) % texts, s >text
-            }
-            close(text)
-        }
-    }'
-}
-tree large 1500 13
-tree small 150 13
-
-crates/kconf_times/out/kconf_times large/Kconfig >large.times
-crates/kconf_times/out/kconf_times small/Kconfig >small.times
-best() { sort -n "$1" | head -n 1; }
-echo "large: $(best large.times | awk '{ printf "%d configs, %d bytes in %d us", $2, $3, $1 }')"
-echo "small: $(best small.times | awk '{ printf "%d configs, %d bytes in %d us", $2, $3, $1 }')"
-if python3 -c 'import kconfiglib' 2>/dev/null; then
-    cd large && python3 -c '
+cat >times.py <<'PY'
 import kconfiglib, time
-start = time.time()
-kconf = kconfiglib.Kconfig("Kconfig", warn=False)
-print("kconfiglib: %d symbols in %d us" % (len(kconf.unique_defined_syms), (time.time() - start) * 1e6))'
+best = None
+for _ in range(3):
+    start = time.time()
+    symbols = len(kconfiglib.Kconfig("Kconfig", warn=False).unique_defined_syms)
+    took = int((time.time() - start) * 1e6)
+    best = took if best is None else min(best, took)
+print(best, symbols)
+PY
+
+best() { sort -n "$1" | head -n 1; }
+
+# beside NAME: both times for the tree in the current folder.
+beside() {
+    "$program" Kconfig >"$data/$1.times"
+    ours=$(best "$data/$1.times")
+    echo "$1: read_tree ${ours% *} us, ${ours#* } configs"
+    if "$python" -c 'import kconfiglib' 2>/dev/null; then
+        theirs=$("$python" "$data/times.py")
+        echo "$1: kconfiglib ${theirs% *} us, ${theirs#* } symbols; $(echo "${theirs% *} ${ours% *}" | awk '{ printf "%.1f", $1 / $2 }') times as long"
+    fi
+}
+
+(cd large && beside large)
+(cd small && beside small)
+echo "ten times the symbols: $(echo "$(best large.times) $(best small.times)" | awk '{ printf "%.1f", $1 / $3 }') times as long"
+
+if [ -n "$kernel" ]; then
+    (cd "$kernel" && find . -name 'Kconfig*' -type f | cpio -pdm "$data/kernel" 2>/dev/null)
+    cd "$data/kernel"
+    cat >"$data/plain.py" <<'PY'
+import os, re
+call = re.compile(r"\$\((?!SRCARCH\))[^()]*(\([^()]*(\([^()]*\)[^()]*)*\)[^()]*)*\)")
+dropped = re.compile(r"\s*(source \"scripts/Kconfig.include\"|imply |visible if )")
+def plain(lines):
+    in_choice = False
+    for line in lines:
+        if dropped.match(line):
+            continue
+        if re.match(r"choice\b", line):
+            in_choice = True
+        if re.match(r"endchoice\b", line):
+            in_choice = False
+        if in_choice:
+            line = re.sub(r"^(\s*)tristate\b", r"\1bool", line)
+        line = re.sub(r"^(\s+)modules$", r"\1option modules", line)
+        yield call.sub("y", line)
+for folder, _, names in os.walk("."):
+    for name in names:
+        path = os.path.join(folder, name)
+        text = open(path, encoding="latin-1").read()
+        open(path, "w", encoding="latin-1").write("\n".join(plain(text.split("\n"))))
+PY
+    "$python" "$data/plain.py"
+    export srctree=. SRCARCH=x86
+    beside kernel
 fi

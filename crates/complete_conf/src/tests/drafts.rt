@@ -9,12 +9,11 @@
 //!
 //! A line of a choice is `x` with the names of its prompt, `z` likewise where it is optional, or `o` with the
 //! member that its default picks if all others.
-ghost use Rattle.std.specs.Prelude.{◌<◌, ◌≤◌, length, All, IfSome};
+ghost use Rattle.std.specs.Prelude.{◌≤◌, length};
 ghost use Rattle.std.specs.Bool.{OnTrue};
-ghost use Rattle.kconf_tree.specs.Built.{HaveChoices};
 
 use kconf_parse::{ChoiceEntry, ConfigEntry, DefaultOf, Entries, Expr, Kind, SelectOf, Side, Sign};
-use kconf_tree::{Tree, TreeBad};
+use kconf_tree::{Tree, TreeBad, have_choices};
 use sqlite_items::{Boxed, Items};
 use std::alloc::{AllocError, Global};
 use ut_logic::{Sequence, Text, Trit};
@@ -254,28 +253,6 @@ fn choices(alloc: Global, lines: &str) -> Result<Vec<ChoiceEntry>, AllocError> {
         add_choice(alloc, &mut list, line.as_bytes())?;
     }
     Ok(list)
-}
-
-/// Whether each choice that a config stands in is there.
-fn are_there(configs: &[ConfigEntry], count: usize) -> bool
-    ensures { OnTrue result (All (λ c. IfSome c.choice (λ i. i < count)) configs.now) }
-{
-    for config in configs {
-        if let Some(choice) = config.choice {
-            if choice as usize >= count {
-                return false;
-            }
-        }
-    }
-    true
-}
-
-/// Whether entries can be built on.
-fn have_choices(entries: &Entries) -> bool
-    ensures { OnTrue result (HaveChoices entries.now) }
-{
-    entries.choices.len() < 4_294_967_296
-        && are_there(entries.configs.as_slice(), entries.choices.len())
 }
 
 /// The tree of lines, or why they make none.

@@ -4,12 +4,8 @@
 //! type and its properties: `p:COND` a prompt, `d:VALUE:COND` a default, `s:TARGET:COND` a select, `c:0` that it
 //! stands in the choice, `modules`. A choice is its prompts, and perhaps `optional`.
 
-ghost use Rattle.std.specs.Prelude.{◌<◌, All, IfSome};
-ghost use Rattle.std.specs.Bool.{OnTrue};
-ghost use Rattle.kconf_tree.specs.Built.{HaveChoices};
-
 use kconf_parse::{ChoiceEntry, ConfigEntry, DefaultOf, Entries, Expr, Kind, SelectOf, Side, Sign};
-use kconf_tree::Tree;
+use kconf_tree::{Tree, have_choices};
 use sqlite_items::{Boxed, Items};
 use std::alloc::Global;
 use std::test::Fail;
@@ -208,28 +204,6 @@ fn choices(alloc: Global, text: Option<&str>) -> Result<Vec<ChoiceEntry>, Fail> 
         list.push(choice(alloc, part)?)?;
     }
     Ok(list)
-}
-
-/// Whether each choice that a config stands in is there.
-fn are_there(configs: &[ConfigEntry], count: usize) -> bool
-    ensures { OnTrue result (All (λ c. IfSome c.choice (λ i. i < count)) configs.now) }
-{
-    for config in configs {
-        if let Some(choice) = config.choice {
-            if choice as usize >= count {
-                return false;
-            }
-        }
-    }
-    true
-}
-
-/// Whether entries can be built on.
-fn have_choices(entries: &Entries) -> bool
-    ensures { OnTrue result (HaveChoices entries.now) }
-{
-    entries.choices.len() < 4_294_967_296
-        && are_there(entries.configs.as_slice(), entries.choices.len())
 }
 
 /// A tree.

@@ -1,5 +1,4 @@
-use crate::tests::drafts::have_choices;
-use crate::{Tree, TreeBad};
+use crate::{Tree, TreeBad, have_choices};
 use kconf_parse::{ChoiceEntry, ConfigEntry, DefaultOf, Entries, Expr, Kind};
 use std::alloc::{AllocError, Global};
 use ut_base::Limit;
