@@ -266,7 +266,11 @@ fn blocks_are_on_as_in_the_run(rt: HostRuntime) -> Result<(), Fail> {
 
 /// The blocks of a C text.
 fn read(alloc: Global, text: &str) -> Result<Blocks, Fail> {
-    let list = directives(alloc, text.as_bytes())?;
+    let bytes = text.as_bytes();
+    if bytes.len() > 16_777_216 {
+        return Err(Fail::from("a long text"));
+    }
+    let list = directives(alloc, bytes)?;
     if !is_well_formed(alloc, &list)? {
         return Err(Fail::from("chains that do not match"));
     }
