@@ -11,7 +11,6 @@ use std::process::Abort;
 use std::test::Fail;
 use ut_logic::Text;
 
-/// The values that are handed in.
 fn vars(alloc: Global) -> Result<Vec<Var>, Fail> {
     let mut list = Vec::new(alloc);
     for (name, value) in [("ARCH", "x86"), ("Q", "\"$(ARCH)\" #"), ("E", "")] {
@@ -38,7 +37,6 @@ fn push_word(line: &mut Vec<u8>, word: &LineWord) -> Result<(), AllocError> {
     Ok(())
 }
 
-/// The words of a line, or why it has none.
 fn shown_words(alloc: Global, line: &str) -> Result<Vec<u8>, Fail> {
     let vars = vars(alloc)?;
     let values = Values::new(alloc, vars.as_slice())?;
@@ -56,7 +54,6 @@ fn shown_words(alloc: Global, line: &str) -> Result<Vec<u8>, Fail> {
     Ok(shown)
 }
 
-/// Each line, with its words.
 fn check_words(rt: &impl Abort, alloc: Global, rows: &[(&str, &str)]) -> Result<(), Fail> {
     for (line, want) in rows {
         let shown = shown_words(alloc, *line)?;
@@ -125,7 +122,6 @@ fn lines_without_effect(rt: HostRuntime) -> Result<(), Fail> {
     check_words(&rt, rt.alloc(), rows.as_slice())
 }
 
-/// The words behind the first one.
 fn behind_first(words: &[LineWord]) -> &[LineWord] {
     match words {
         [_, rest @ ..] => rest,
@@ -154,7 +150,6 @@ fn shown_expression(alloc: Global, line: &str) -> Result<Vec<u8>, Fail> {
     Ok(shown)
 }
 
-/// Each line, with its expression.
 fn check_expressions(rt: &impl Abort, alloc: Global, rows: &[(&str, &str)]) -> Result<(), Fail> {
     for (line, want) in rows {
         let shown = shown_expression(alloc, *line)?;

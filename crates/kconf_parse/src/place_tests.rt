@@ -37,7 +37,6 @@ fn check_places(rt: &impl Abort, alloc: Global, rows: &[(&str, &str)]) -> Result
     Ok(())
 }
 
-/// The lines in each place, by its mark.
 fn check_row(rt: &impl Abort, alloc: Global, lines: &str, marks: &[u8]) -> Result<(), Fail> {
     let mut place = 0;
     for mark in marks {

@@ -13,14 +13,12 @@ pub fn var(alloc: Global, name: &str, value: &str) -> Result<Var, Fail> {
     Ok(Var { name, value })
 }
 
-/// A file that is held in memory.
 fn mem_file(alloc: Global, name: &str, text: &str) -> Result<MemFile, Fail> {
     let name = Name::new(alloc, name)?.ok_or("a name")?;
     let bytes = Vec::from_slice(alloc, text.as_bytes())?;
     Ok(MemFile { name, bytes })
 }
 
-/// Files that are held in memory, by name and text.
 fn mem_files(alloc: Global, texts: &[(&str, &str)]) -> Result<MemFiles, Fail> {
     let mut list = Vec::new(alloc);
     for (name, text) in texts {

@@ -4,7 +4,6 @@ use crate::{
 use std::alloc::{AllocError, Global};
 use ut_logic::Trit;
 
-/// The word of a type.
 fn kind_text(kind: Kind) -> &'static str {
     match kind {
         Kind::Bool => "bool",
@@ -16,7 +15,6 @@ fn kind_text(kind: Kind) -> &'static str {
     }
 }
 
-/// The letter of a value.
 fn trit_text(value: Trit) -> &'static str {
     match value {
         Trit::N => "n",
@@ -25,7 +23,6 @@ fn trit_text(value: Trit) -> &'static str {
     }
 }
 
-/// A sign as it is written.
 fn sign_text(sign: Sign) -> &'static str {
     match sign {
         Sign::Same => "=",
@@ -37,7 +34,6 @@ fn sign_text(sign: Sign) -> &'static str {
     }
 }
 
-/// Appends a text.
 fn push(shown: &mut Vec<u8>, text: &str) -> Result<(), AllocError> {
     shown.extend_from_slice(text.as_bytes())
 }
@@ -52,7 +48,6 @@ fn push_side(shown: &mut Vec<u8>, side: &Side) -> Result<(), AllocError> {
     }
 }
 
-/// Appends a text with one before it and one behind it.
 fn push_between(
     shown: &mut Vec<u8>,
     before: &str,
@@ -96,7 +91,6 @@ fn push_list(shown: &mut Vec<u8>, word: &str, list: &[Expr]) -> Result<(), Alloc
     push(shown, ")")
 }
 
-/// The conditions of prompts.
 fn push_prompts(shown: &mut Vec<u8>, list: &[Expr]) -> Result<(), AllocError> {
     for prompt in list {
         push(shown, " prompt ")?;
@@ -105,13 +99,11 @@ fn push_prompts(shown: &mut Vec<u8>, list: &[Expr]) -> Result<(), AllocError> {
     Ok(())
 }
 
-/// A target and its condition behind a word.
 fn push_select(shown: &mut Vec<u8>, word: &str, select: &SelectOf) -> Result<(), AllocError> {
     push_between(shown, word, select.target.text(), " if ")?;
     push_expr(shown, &select.cond)
 }
 
-/// Targets and their conditions, each behind a word.
 fn push_selects(shown: &mut Vec<u8>, word: &str, list: &[SelectOf]) -> Result<(), AllocError> {
     for select in list {
         push_select(shown, word, select)?;
@@ -119,7 +111,6 @@ fn push_selects(shown: &mut Vec<u8>, word: &str, list: &[SelectOf]) -> Result<()
     Ok(())
 }
 
-/// The value of a default, its text where it has one, and its condition.
 fn push_default(shown: &mut Vec<u8>, default: &DefaultOf) -> Result<(), AllocError> {
     push(shown, " default ")?;
     push_expr(shown, &default.value)?;
@@ -130,7 +121,6 @@ fn push_default(shown: &mut Vec<u8>, default: &DefaultOf) -> Result<(), AllocErr
     push_expr(shown, &default.cond)
 }
 
-/// Defaults in their order.
 fn push_defaults(shown: &mut Vec<u8>, list: &[DefaultOf]) -> Result<(), AllocError> {
     for default in list {
         push_default(shown, default)?;
@@ -138,7 +128,6 @@ fn push_defaults(shown: &mut Vec<u8>, list: &[DefaultOf]) -> Result<(), AllocErr
     Ok(())
 }
 
-/// The number of the choice that a config stands in.
 fn push_choice_number(
     alloc: Global,
     shown: &mut Vec<u8>,
@@ -151,7 +140,6 @@ fn push_choice_number(
     Ok(())
 }
 
-/// A config: its name, its type and its properties.
 fn push_config(alloc: Global, shown: &mut Vec<u8>, config: &ConfigEntry) -> Result<(), AllocError> {
     push_between(shown, config.name.text(), " ", kind_text(config.kind))?;
     push_choice_number(alloc, shown, config.choice)?;
@@ -167,7 +155,6 @@ fn push_config(alloc: Global, shown: &mut Vec<u8>, config: &ConfigEntry) -> Resu
     push(shown, "; ")
 }
 
-/// A choice: its type and its properties.
 fn push_choice(shown: &mut Vec<u8>, choice: &ChoiceEntry) -> Result<(), AllocError> {
     push_between(shown, "choice ", kind_text(choice.kind), "")?;
     if choice.optional {

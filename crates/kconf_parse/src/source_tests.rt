@@ -63,7 +63,6 @@ fn texts_sourced_in_a_choice(rt: HostRuntime) -> Result<(), Fail> {
     check_sourced(&rt, rt.alloc(), root, rows.as_slice())
 }
 
-/// A text, with what reading it alone gives.
 fn check_alone(
     rt: &impl Abort,
     alloc: Global,
