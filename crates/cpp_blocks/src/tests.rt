@@ -3,7 +3,7 @@ ghost use Rattle.cpp_blocks.specs.Facts.{AreStarts};
 ghost use Rattle.cpp_blocks.specs.WellFormed.{IsWellFormed};
 
 use crate::{Blocks, BuiltOf, StartOf, block_facts, is_well_formed};
-use cpp_read::{Cond, Directive, Gives, What};
+use cpp_read::{Cond, Directive, Gives, What, directives};
 use sqlite_items::{Boxed, Items};
 use std::alloc::{AllocError, Global};
 use std::fmt::Write;
@@ -191,9 +191,8 @@ fn chosen(alloc: Global, words: &str) -> Result<Vec<Item>, AllocError> {
 }
 
 /// The blocks that are on where the chosen items are true, with a blank between.
-fn on(alloc: Global, lines: &str, chosen: &[Item]) -> Result<String, Fail> {
-    let blocks = blocks(alloc, lines)?;
-    let facts = facts(alloc, &blocks)?;
+fn on(alloc: Global, blocks: &Blocks, chosen: &[Item]) -> Result<String, Fail> {
+    let facts = facts(alloc, blocks)?;
     let mut items = Vec::from_slice(alloc, chosen)?;
     for _ in 0..facts.list.len() {
         items = settled(alloc, &facts, chosen, &items)?;
@@ -259,8 +258,81 @@ fn blocks_are_on_as_in_the_run(rt: HostRuntime) -> Result<(), Fail> {
     for row in ROWS.lines() {
         let (lines, more) = row.split_once('|').unwrap_or((row, ""));
         let (words, want) = more.split_once('|').unwrap_or((more, ""));
-        let found = on(alloc, lines, &chosen(alloc, words)?)?;
+        let found = on(alloc, &blocks(alloc, lines)?, &chosen(alloc, words)?)?;
         assert!(rt; found.as_str() == want, "{row} {found}");
+    }
+    Ok(())
+}
+
+/// The blocks of a C text.
+fn read(alloc: Global, text: &str) -> Result<Blocks, Fail> {
+    let bytes = text.as_bytes();
+    if bytes.len() > 16_777_216 {
+        return Err(Fail::from("a long text"));
+    }
+    let list = directives(alloc, bytes)?;
+    if !is_well_formed(alloc, &list)? {
+        return Err(Fail::from("chains that do not match"));
+    }
+    Ok(Blocks::build(alloc, list)?)
+}
+
+/// A comment in front of a word, a comment's start in a string, and a word over two lines. The names are
+/// CONFIG_A and CONFIG_Z.
+const TEXT: &str =
+    "#/* x */ifdef CONFIG_A\nchar *s = \"/*\";\n#endif\n#if defi\\\nned(CONFIG_Z)\n#endif\n";
+
+#[test]
+fn blocks_of_a_text(rt: HostRuntime) -> Result<(), Fail> {
+    let alloc = rt.alloc();
+    let blocks = read(alloc, TEXT)?;
+    for (words, want) in [
+        ("", ""),
+        ("d0 t0", "1"),
+        ("d1 t1", "2"),
+        ("d0 t0 d1 t1", "1 2"),
+    ] {
+        let found = on(alloc, &blocks, &chosen(alloc, words)?)?;
+        assert!(rt; found.as_str() == want, "{words}: {found}");
+    }
+    Ok(())
+}
+
+/// A driver as users have it. The names are DRV_C, CONFIG_E1000, CONFIG_E1000_MODULE,
+/// CONFIG_CRC_LIB_MODULE, CONFIG_CRC_LIB, CONFIG_DEBUG and CONFIG_HZ; the piece is `CONFIG_HZ > 100`.
+const DRIVER: &str = "\
+#ifndef DRV_C\n\
+#define DRV_C\n\
+#include <linux/module.h>\n\
+#if IS_ENABLED(CONFIG_E1000)\n\
+#ifdef CONFIG_CRC_LIB_MODULE\n\
+#endif\n\
+#if !defined(CONFIG_CRC_LIB) && !defined(CONFIG_CRC_LIB_MODULE)\n\
+#endif\n\
+#endif\n\
+#if CONFIG_HZ > 100\n\
+#endif\n\
+#ifdef CONFIG_DEBUG\n\
+#else\n\
+#endif\n\
+#ifdef CONFIG_HZ\n\
+#endif\n\
+#endif\n";
+
+#[test]
+fn blocks_of_a_driver(rt: HostRuntime) -> Result<(), Fail> {
+    let alloc = rt.alloc();
+    let blocks = read(alloc, DRIVER)?;
+    for (words, want) in [
+        ("", "1 7"),
+        ("d0", ""),
+        ("d1 t1", "1 2 4 7"),
+        ("d2 t2 d3 t3", "1 2 3 7"),
+        ("d1 t1 d4 t4", "1 2 7"),
+        ("d5 t5 d6 t6 p0", "1 5 6 8"),
+    ] {
+        let found = on(alloc, &blocks, &chosen(alloc, words)?)?;
+        assert!(rt; found.as_str() == want, "{words}: {found}");
     }
     Ok(())
 }
