@@ -17,8 +17,6 @@ mod laws;
 mod limits;
 mod outer_truths;
 mod selecting;
-#[cfg(test)]
-mod tests;
 mod texts;
 mod validity;
 mod values;

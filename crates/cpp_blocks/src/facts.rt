@@ -82,6 +82,7 @@ fn mention(f: &Formula, items: &mut Vec<Item>) -> Result<(), AllocError>
     }
 }
 
+/// The items of each formula, behind one another.
 #[cycle(mention)]
 fn mention_each(list: &[Formula], items: &mut Vec<Item>) -> Result<(), AllocError>
     ensures { OnOk result (items.new.items ≡ items.old.items ++ together (map mentioned list.now)) }
@@ -92,6 +93,7 @@ fn mention_each(list: &[Formula], items: &mut Vec<Item>) -> Result<(), AllocErro
     Ok(())
 }
 
+/// Lets all go but the pieces.
 fn keep_pieces(items: &mut Vec<Item>)
     ensures { items.new.items ≡ filter spec.is_piece items.old.items }
 {

@@ -55,6 +55,7 @@ impl Gathered {
         }
     }
 
+    /// Puts a fact where facts of its kind of node stand.
     fn put_one(&mut self, fact: Fact) -> Result<(), AllocError>
         ensures { OnOk result (self.new ≡ spec.put_by fact.node fact self.old) }
     {

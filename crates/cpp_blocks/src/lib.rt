@@ -21,8 +21,6 @@ mod pieces;
 mod source_facts;
 mod starts;
 mod state;
-#[cfg(test)]
-mod tests;
 mod turns;
 mod well_formed;
 

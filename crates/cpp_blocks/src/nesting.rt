@@ -28,6 +28,7 @@ impl Model for Nesting {
 }
 
 impl Nesting {
+    /// No group is open, and the first block is to come.
     fn new(alloc: Global) -> Nesting
         ensures { result ≡ spec.nothing }
     {

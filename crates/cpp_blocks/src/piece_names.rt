@@ -20,12 +20,14 @@ pub enum Scan {
     Escape(u8),
 }
 
+/// A letter or `_`.
 fn is_letter(byte: u8) -> bool
     ensures { result ≡ names.is_letter byte }
 {
     byte.is_ascii_lowercase() || byte.is_ascii_uppercase() || byte == b'_'
 }
 
+/// A letter, a digit or `_`.
 fn is_name_byte(byte: u8) -> bool
     ensures { result ≡ names.is_name_byte byte }
 {
@@ -49,6 +51,7 @@ fn enter(alloc: Global, byte: u8) -> Result<Scan, AllocError>
     Ok(Scan::Between)
 }
 
+/// A name as a text.
 fn name_text(alloc: Global, word: &[u8]) -> Result<Text, AllocError>
     requires { list_all names.is_name_byte word.now ≡ true }
     ensures { IfOk result (λ t. t ≡ word.now) }

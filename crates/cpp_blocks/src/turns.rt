@@ -44,6 +44,7 @@ impl Turns {
         self.sum(names.as_slice())
     }
 
+    /// The turns of these names, added up.
     fn sum(&self, names: &[Text]) -> Result<u32, AllocError>
         ensures { IfOk result (λ turn. turn ≡ sum_by (turn_in self.now) names.now) }
     {

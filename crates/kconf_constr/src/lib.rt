@@ -18,8 +18,6 @@ mod items;
 mod limits;
 mod scope;
 mod symbol_formulas;
-#[cfg(test)]
-mod tests;
 
 pub use conditions::{free_not_n, is_y, not_n};
 pub use facts::{constraints, free_constraints};

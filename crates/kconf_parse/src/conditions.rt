@@ -71,6 +71,7 @@ pub fn full_defaults(
     Ok(Sequence::from_vec(list))
 }
 
+/// A default whose condition holds those of its place.
 fn full_default(alloc: Global, place: &[Expr], own: &DefaultOf) -> Result<DefaultOf, AllocError>
     ensures { IfOk result (λ d. d ≡ inner.full_default_of place.now own.now) }
 {
@@ -80,6 +81,7 @@ fn full_default(alloc: Global, place: &[Expr], own: &DefaultOf) -> Result<Defaul
     Ok(DefaultOf { value, cond, text })
 }
 
+/// A copy of a default's text, if it has one.
 fn copy_text(alloc: Global, text: &Option<Text>) -> Result<Option<Text>, AllocError>
     ensures { IfOk result (λ t. t ≡ text.now) }
 {
@@ -104,6 +106,7 @@ pub fn full_selects(
     Ok(Sequence::from_vec(list))
 }
 
+/// A select whose condition holds those of its place.
 fn full_select(alloc: Global, place: &[Expr], own: &SelectOf) -> Result<SelectOf, AllocError>
     ensures { IfOk result (λ s. s ≡ inner.full_select_of place.now own.now) }
 {

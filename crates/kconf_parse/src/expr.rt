@@ -90,6 +90,7 @@ impl Expr {
     }
 }
 
+/// A copy of each.
 #[cycle(copy)]
 fn copy_each(alloc: Global, list: &[Expr]) -> Result<Vec<Expr>, AllocError>
     ensures { IfOk result (λ v. v.items ≡ list.now) }

@@ -70,6 +70,7 @@ impl Model for FirstReader {
     ghost view = { λ r. record { declared = r.declared.keys; place = r.place } };
 }
 
+/// The entry of a symbol that depends on these.
 fn entry_of(alloc: Global, name: Text, needs: &[Text]) -> Result<ConfigEntry, AllocError>
     ensures { IfOk result (λ e. e ≡ spec.entry_of name needs.now) }
 {
@@ -103,6 +104,7 @@ fn ended(alloc: Global, line: u32, place: Place) -> Result<Option<ConfigEntry>, 
 }
 
 impl FirstReader {
+    /// A reader before the first line.
     fn new(alloc: Global) -> FirstReader
         ensures { result ≡ spec.start }
     {
@@ -112,18 +114,21 @@ impl FirstReader {
         }
     }
 
+    /// Whether an earlier `config` line has the name.
     fn is_declared(&self, name: &Text) -> bool
         ensures { result ≡ spec.is_declared self.now.declared name.now }
     {
         self.declared.contains(name)
     }
 
+    /// Whether a `config` line of this name is refused: the name is declared, or there are as many symbols as may be.
     fn is_refused(&self, name: &Text) -> bool
         ensures { result ≡ spec.is_refused self.now.declared name.now }
     {
         self.is_declared(name) || self.declared.len() >= MOST_ENTRIES
     }
 
+    /// Whether each name is declared before, and none is the own one.
     fn are_earlier(&self, own: &Text, names: &[Text]) -> bool
         ensures { result ≡ list_all (spec.is_earlier self.now.declared own.now) names.now }
     {
@@ -180,6 +185,7 @@ impl FirstReader {
         }
     }
 
+    /// A `depends on` line with these names.
     fn need(
         &mut self,
         line: u32,
@@ -197,6 +203,7 @@ impl FirstReader {
         Ok(None)
     }
 
+    /// What a line does that says this; a symbol whose lines are over is answered.
     fn step(
         &mut self,
         alloc: Global,
@@ -213,6 +220,7 @@ impl FirstReader {
         }
     }
 
+    /// One line.
     fn read(
         &mut self,
         alloc: Global,

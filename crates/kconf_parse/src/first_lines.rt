@@ -16,24 +16,28 @@ pub enum FirstLine {
     Other,
 }
 
+/// A to Z.
 fn is_capital(byte: u8) -> bool
     ensures { result ≡ spec.is_capital byte }
 {
     byte.is_ascii_uppercase()
 }
 
+/// A letter, a digit or `_`.
 fn is_name_byte(byte: u8) -> bool
     ensures { result ≡ spec.is_name_byte byte }
 {
     is_capital(byte) || byte.is_ascii_lowercase() || byte.is_ascii_digit() || byte == b'_'
 }
 
+/// Whether each byte may stand in a name.
 fn are_name_bytes(text: &[u8]) -> bool
     ensures { result ≡ list_all spec.is_name_byte text.now }
 {
     text.iter().all(|b| is_name_byte(*b))
 }
 
+/// A capital, and bytes of names.
 fn is_name(text: &[u8]) -> bool
     ensures { result ≡ spec.is_name text.now }
 {
@@ -43,6 +47,7 @@ fn is_name(text: &[u8]) -> bool
     }
 }
 
+/// A name as a text.
 fn name_text(alloc: Global, name: &[u8]) -> Result<Text, AllocError>
     requires { spec.is_name name.now ≡ true }
     ensures { IfOk result (λ t. t ≡ name.now) }
@@ -50,12 +55,14 @@ fn name_text(alloc: Global, name: &[u8]) -> Result<Text, AllocError>
     Text::of_bytes(alloc, name)
 }
 
+/// A byte that may stand in a prompt.
 fn is_text_byte(byte: u8) -> bool
     ensures { result ≡ spec.is_text_byte byte }
 {
     byte != b'"' && byte != b'\'' && byte != b'\\' && byte != b'$'
 }
 
+/// How many bytes of a prompt stand in front.
 fn text_len(text: &[u8]) -> usize
     ensures value { result ≡ prefix_len spec.is_text_byte text.now }
     ensures within { result ≤ length text.now }
@@ -70,24 +77,28 @@ fn text_len(text: &[u8]) -> usize
     count
 }
 
+/// Bytes of a prompt, and the closing quote.
 fn ends_quoted(text: &[u8]) -> bool
     ensures { result ≡ spec.ends_quoted text.now }
 {
     &text[text_len(text)..] == b"\"".as_slice()
 }
 
+/// A line of a type with a prompt.
 fn is_prompt(line: &[u8]) -> bool
     ensures { result ≡ spec.is_prompt line.now }
 {
     line.starts_with(b"\tbool \"".as_slice()) && ends_quoted(&line[7..])
 }
 
+/// A line that declares a symbol.
 fn is_config(line: &[u8]) -> bool
     ensures { result ≡ spec.is_config line.now }
 {
     line.starts_with(b"config ".as_slice()) && is_name(&line[7..])
 }
 
+/// A line with a dependency.
 fn is_depends(line: &[u8]) -> bool
     ensures { result ≡ spec.is_depends line.now }
 {
@@ -111,6 +122,7 @@ pub fn first_line(alloc: Global, line: &[u8]) -> Result<FirstLine, AllocError>
     Ok(FirstLine::Other)
 }
 
+/// What a line with these behind `depends on` says.
 fn depends_line(alloc: Global, text: &[u8]) -> Result<FirstLine, AllocError>
     ensures { IfOk result (λ f. f ≡ spec.depends_line (spec.names_from true (spec.words_of text.now))) }
 {
@@ -121,6 +133,7 @@ fn depends_line(alloc: Global, text: &[u8]) -> Result<FirstLine, AllocError>
     }
 }
 
+/// How many bytes stand before the first blank.
 fn word_len(text: &[u8]) -> usize
     ensures value { result ≡ prefix_len spec.is_word_byte text.now }
     ensures within { result ≤ length text.now }

@@ -32,6 +32,7 @@ pub fn indentation(line: &[u8]) -> usize
     column
 }
 
+/// A line of blanks alone.
 fn is_empty_line(line: &[u8]) -> bool
     ensures { result ≡ spec.is_empty_line line.now }
 {

@@ -52,20 +52,3 @@ pub use expression_laws::expressions_follow_the_grammar;
 pub use first_file::first_tree;
 pub use first_laws::first_bad_line_is_named;
 pub use tree_file::read_tree;
-
-#[cfg(test)]
-mod entry_tests;
-#[cfg(test)]
-mod fault_tests;
-#[cfg(test)]
-mod line_tests;
-#[cfg(test)]
-mod place_tests;
-#[cfg(test)]
-mod readings;
-#[cfg(test)]
-mod shown;
-#[cfg(test)]
-mod source_tests;
-#[cfg(test)]
-mod tests;

@@ -62,6 +62,7 @@ impl Model for Progress {
     } };
 }
 
+/// Whether two openers are of one kind.
 fn same_kind(kind: OpenerKind, other: OpenerKind) -> bool
     ensures { result ≡ spec.same_kind kind other }
 {
@@ -75,12 +76,14 @@ fn may_be_member(kind: Kind) -> bool
     matches!(kind, Kind::Bool | Kind::Tristate | Kind::Untyped)
 }
 
+/// Bool or tristate.
 fn is_logical(kind: Kind) -> bool
     ensures { result ≡ spec.is_logical kind }
 {
     matches!(kind, Kind::Bool | Kind::Tristate)
 }
 
+/// The open choice, with a type from here on.
 fn typed(choice: Option<OpenChoice>) -> Option<OpenChoice>
     ensures { result ≡ spec.typed choice }
 {
@@ -93,6 +96,7 @@ fn typed(choice: Option<OpenChoice>) -> Option<OpenChoice>
     }
 }
 
+/// Whether a symbol stands in another choice already.
 fn is_other(choice: Option<u32>, number: u32) -> bool
     ensures { result ≡ spec.is_other choice number }
 {
@@ -102,6 +106,7 @@ fn is_other(choice: Option<u32>, number: u32) -> bool
     }
 }
 
+/// The choice that a symbol stands in: the first one counts.
 fn first_choice(choice: Option<u32>, number: u32) -> Option<u32>
     ensures { result ≡ spec.first_choice choice number }
 {
@@ -272,6 +277,7 @@ impl Progress {
         self.open_at(alloc, opener, EntryLines::Nothing)
     }
 
+    /// Whether an earlier choice has the name.
     fn is_used(&self, name: &Option<Text>) -> bool
         ensures { result ≡ spec.is_used self.now.choice_names name.now }
     {
@@ -348,6 +354,7 @@ impl Progress {
         Ok(())
     }
 
+    /// Whether the innermost opener of this text is of the kind, so that its end word may stand here.
     fn is_innermost(&self, floor: usize, kind: OpenerKind) -> bool
         ensures { result ≡ spec.may_end floor self.now.openers kind }
     {

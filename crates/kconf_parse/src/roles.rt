@@ -19,6 +19,7 @@ pub enum Role {
     Other,
 }
 
+/// What a sign does in an expression.
 fn role_of_sign(text: &[u8]) -> Role
     ensures { result ≡ spec.role_of_sign text.now }
 {

@@ -129,6 +129,7 @@ pub fn part_len(text: &[u8]) -> Option<usize>
     }
 }
 
+/// Whether the run goes on at this byte.
 fn goes_on(run: Run, text: &[u8]) -> bool
     ensures { result ≡ spec.goes_on run text.now }
 {

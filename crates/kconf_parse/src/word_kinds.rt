@@ -14,30 +14,35 @@ fn is_of_names(byte: u8) -> bool
     byte.is_ascii_uppercase() || byte.is_ascii_lowercase() || byte.is_ascii_digit() || byte == b'_'
 }
 
+/// 0 to 9.
 fn is_digit(byte: u8) -> bool
     ensures { result ≡ spec.is_digit byte }
 {
     byte.is_ascii_digit()
 }
 
+/// A hexadecimal digit.
 fn is_hex_digit(byte: u8) -> bool
     ensures { result ≡ spec.is_hex_digit byte }
 {
     byte.is_ascii_digit() || (b'A' <= byte && byte <= b'F') || (b'a' <= byte && byte <= b'f')
 }
 
+/// Whether each byte is a digit.
 fn digits_only(text: &[u8]) -> bool
     ensures { result ≡ list_all spec.is_digit text.now }
 {
     text.iter().all(|b| is_digit(*b))
 }
 
+/// Whether each byte is a hexadecimal digit.
 fn hex_digits_only(text: &[u8]) -> bool
     ensures { result ≡ list_all spec.is_hex_digit text.now }
 {
     text.iter().all(|b| is_hex_digit(*b))
 }
 
+/// Whether each byte may stand in a name.
 fn names_only(text: &[u8]) -> bool
     ensures { result ≡ list_all is_name_byte text.now }
 {
@@ -74,6 +79,7 @@ fn are_name_bytes(text: &[u8]) -> bool
     }
 }
 
+/// Digits, with or without `-` before them, or `0x` and hexadecimal digits.
 fn is_number(text: &[u8]) -> bool
     ensures { result ≡ spec.is_number text.now }
 {
@@ -82,6 +88,7 @@ fn is_number(text: &[u8]) -> bool
         || (text.starts_with(b"0x".as_slice()) && are_hex_digits(&text[2..]))
 }
 
+/// The value of `y`, `m` or `n`.
 fn constant(text: &[u8]) -> Option<Trit>
     ensures { result ≡ spec.constant text.now }
 {
@@ -93,12 +100,14 @@ fn constant(text: &[u8]) -> Option<Trit>
     }
 }
 
+/// A word of letters, digits and `_` that is no number and no constant.
 fn is_name_text(text: &[u8]) -> bool
     ensures { result ≡ spec.is_name_text text.now }
 {
     are_name_bytes(text) && !is_number(text) && constant(text).is_none()
 }
 
+/// An unquoted word.
 fn is_bare(form: Form) -> bool
     ensures { result ≡ spec.is_bare_form form }
 {

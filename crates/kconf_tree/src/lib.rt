@@ -17,8 +17,6 @@ mod cycle;
 mod distance;
 mod gather;
 mod graph;
-#[cfg(test)]
-mod graph_tests;
 mod having_choices;
 mod limits;
 mod links;
@@ -33,8 +31,6 @@ mod parts_graph;
 mod place;
 mod references;
 mod shape;
-#[cfg(test)]
-mod tests;
 mod tree;
 mod types;
 

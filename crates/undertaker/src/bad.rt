@@ -50,6 +50,7 @@ impl Bad {
     }
 }
 
+/// The status of a refused Kconfig text.
 fn status_of_kconfig(bad: &KconfBad) -> Status
     ensures { result ≡ kconf_status bad.now }
 {
@@ -64,6 +65,7 @@ fn status_of_kconfig(bad: &KconfBad) -> Status
     }
 }
 
+/// The status of a source that was not taken.
 fn status_of_take(bad: &TakeBad) -> Status
     ensures { result ≡ take_status bad.now }
 {
@@ -75,6 +77,7 @@ fn status_of_take(bad: &TakeBad) -> Status
     }
 }
 
+/// The word of what a line breaks.
 fn kind_word(kind: SyntaxKind) -> &'static str
     ensures { result.now ≡ kind_text kind }
 {
@@ -92,6 +95,7 @@ fn kind_word(kind: SyntaxKind) -> &'static str
     }
 }
 
+/// The line on a refused Kconfig text.
 fn text_of_kconfig(alloc: Global, bad: &KconfBad) -> Result<Vec<u8>, AllocError>
     ensures { IfOk result (λ l. l.items ≡ kconf_line bad.now) }
 {
@@ -111,6 +115,7 @@ fn text_of_kconfig(alloc: Global, bad: &KconfBad) -> Result<Vec<u8>, AllocError>
     }
 }
 
+/// The line on a source that was not taken.
 fn text_of_take(alloc: Global, name: &Name, bad: &TakeBad) -> Result<Vec<u8>, AllocError>
     ensures { IfOk result (λ l. l.items ≡ take_line name.now bad.now) }
 {

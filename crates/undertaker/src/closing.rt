@@ -62,6 +62,7 @@ pub fn closure(
     Ok(found)
 }
 
+/// The symbol that was found at this place.
 fn symbol_at(found: &[usize], at: usize) -> usize
     requires { at < length found.now }
     ensures { (d : ℕ) → get_or found.now at d ≡ result }

@@ -54,6 +54,7 @@ fn number_of(names: &Names, member: &Expr) -> Option<usize>
     }
 }
 
+/// The numbers of the symbols that are named.
 fn numbers_of(alloc: Global, names: &Names, members: &[Expr]) -> Result<Items<usize>, AllocError>
     ensures { IfOk result (λ numbers. numbers ≡ numbers_of names.now (names_of_members members.now)) }
 {
@@ -110,6 +111,7 @@ impl Dependencies {
         self.row(symbol)
     }
 
+    /// What a symbol needs.
     fn row(&self, symbol: usize) -> &[usize]
         requires { symbol < length self.now.needs }
         ensures { result.now ≡ needs_at self.now symbol }
@@ -118,6 +120,7 @@ impl Dependencies {
     }
 }
 
+/// What each symbol needs.
 fn needs_of(
     alloc: Global,
     names: &Names,

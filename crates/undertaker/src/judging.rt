@@ -136,6 +136,7 @@ pub fn words_of_steps(
     words_with(alloc, graph, &mut marks, steps)
 }
 
+/// The word of each block; the marks are a place to work in.
 fn words_with(
     alloc: Global,
     graph: &Dependencies,

@@ -21,6 +21,7 @@ fn module_name(name: &str) -> Option<&str>
     name.strip_suffix("_MODULE")
 }
 
+/// Whether this is the macro of a declared symbol as a module.
 fn is_module(alloc: Global, graph: &Dependencies, name: &str) -> Result<bool, AllocError>
     ensures { IfOk result (λ b. b ≡ is_module_under graph.now.names name.now) }
 {
@@ -33,6 +34,7 @@ fn is_module(alloc: Global, graph: &Dependencies, name: &str) -> Result<bool, Al
     }
 }
 
+/// What the macro of a symbol of this name means.
 fn config_meaning(alloc: Global, graph: &Dependencies, name: &str) -> Result<Meaning, AllocError>
     ensures { IfOk result (λ m. m ≡ config_meaning_under graph.now.names name.now) }
 {

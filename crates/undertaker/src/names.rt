@@ -21,6 +21,7 @@ impl Model for Names {
 }
 
 impl Names {
+    /// No names.
     pub fn new(alloc: Global) -> Names
         ensures { result ≡ [] }
     {

@@ -53,6 +53,7 @@ impl Path {
         any_clash(&self.levels, own) | self.is_clashing()
     }
 
+    /// Whether the open blocks ask for something and its contrary.
     fn is_clashing(&self) -> bool
         ensures { result ≡ spec.clashes self.now }
     {
@@ -108,6 +109,7 @@ impl Path {
     }
 }
 
+/// The symbols that the open blocks and this wish ask for.
 fn wanted_of(alloc: Global, own: Wish, levels: &[Level]) -> Result<Vec<usize>, AllocError>
     ensures { IfOk result (λ v. v.items ≡ spec.wanted_symbol own ++ spec.wanted_symbols (wishes_of levels.now)) }
 {
@@ -119,24 +121,28 @@ fn wanted_of(alloc: Global, own: Wish, levels: &[Level]) -> Result<Vec<usize>, A
     Ok(symbols)
 }
 
+/// Whether the wish is contrary to one of an open block.
 fn any_clash(levels: &[Level], own: Wish) -> bool
     ensures { result ≡ list_any (λ l. spec.clash own l.wish) levels.now }
 {
     levels.iter().any(|level| own.clashes_with(level.wish))
 }
 
+/// Whether an open block asks for a symbol as a module.
 fn any_module(levels: &[Level]) -> bool
     ensures { result ≡ list_any (λ l. spec.wants_module l.wish) levels.now }
 {
     levels.iter().any(|level| level.wish.wants_module())
 }
 
+/// Whether an open block asks for an undeclared symbol.
 fn any_undeclared(levels: &[Level]) -> bool
     ensures { result ≡ list_any (λ l. spec.wants_undeclared l.wish) levels.now }
 {
     levels.iter().any(|level| level.wish.wants_undeclared())
 }
 
+/// Whether an open block asks for a marked symbol to be off.
 fn any_hit(levels: &[Level], marks: &[bool]) -> bool
     ensures { result ≡ list_any (λ l. spec.is_hit (is_marked marks.now) l.wish) levels.now }
 {

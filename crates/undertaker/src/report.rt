@@ -15,6 +15,7 @@ use ut_verdict::{Ask, Class, Word};
 /// No question of the first form is given a budget, and none is left undecided.
 const STEPS: u64 = 0;
 
+/// The word of a class.
 fn class_word(class: Class) -> &'static str
     ensures { result.now ≡ class_text class }
 {
@@ -26,6 +27,7 @@ fn class_word(class: Class) -> &'static str
     }
 }
 
+/// The word of what was asked.
 fn ask_word(ask: Ask) -> &'static str
     ensures { result.now ≡ ask_text ask }
 {
@@ -72,6 +74,7 @@ fn add_word(text: &mut Vec<u8>, word: Word) -> Result<(), AllocError>
     }
 }
 
+/// The line of a block's verdict.
 fn verdict_line(alloc: Global, name: &Name, block: u64, word: Word) -> Result<Line, AllocError>
     ensures { IfOk result (λ l. l ≡ ended (block_line name.now STEPS block word)) }
 {
@@ -126,6 +129,7 @@ fn refusal(bad: CppBad) -> (&'static str, u32)
     }
 }
 
+/// The line on a source that is refused.
 fn refusal_line(alloc: Global, name: &Name, bad: CppBad) -> Result<Line, AllocError>
     ensures { IfOk result (λ l. l ≡ ended (refused_line name.now bad)) }
 {

@@ -29,6 +29,7 @@ struct Asked<'a> {
     defined: bool,
 }
 
+/// What a condition asks of one macro.
 fn asked_of(cond: &Cond) -> Option<Asked<'_>>
     ensures { option_map (λ a. (a.name.now, a.defined)) result ≡ asked_of cond.now }
 {
@@ -48,6 +49,7 @@ fn asked_of(cond: &Cond) -> Option<Asked<'_>>
     }
 }
 
+/// What is wanted of the macro.
 fn wish_of(
     alloc: Global,
     graph: &Dependencies,
@@ -69,6 +71,7 @@ fn wish_of(
     })
 }
 
+/// The step of a directive.
 fn step_of(
     alloc: Global,
     graph: &Dependencies,
@@ -86,6 +89,7 @@ fn step_of(
     }
 }
 
+/// What a directive asks of one macro.
 fn asked_in(what: &What) -> Option<Asked<'_>>
     ensures { option_map (λ a. (a.name.now, a.defined)) result ≡ asked_in what.now }
 {

@@ -47,6 +47,7 @@ impl Totals {
         totals
     }
 
+    /// Counts one more block, with its word.
     fn add(&mut self, word: Word)
         requires { self.old.blocks < 2 ^ 64 - 1 }
         ensures { self.new ≡ counted self.old word }
