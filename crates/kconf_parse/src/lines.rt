@@ -1,29 +1,32 @@
-ghost use Rattle.std.specs.Prelude.{◌≡◌, ◌<◌, ◌≤◌, ◌∷◌, [], take, drop, length};
+ghost use Rattle.std.specs.Prelude.{◌≡◌, ◌<◌, ◌≤◌, ◌∷◌, [], Some, take, drop, length};
 ghost use Rattle.kconf_parse.specs.Lines.{lines_of};
 ghost use Rattle.kconf_parse.specs.LineEnds as ends;
+ghost use Rattle.memchr.specs.Find.{IsFirstByte, is_byte};
 
-/// Whether a line ends at this place: by a newline, or by a carriage return and a newline.
-fn ends_line(text: &[u8], at: usize) -> bool
-    requires { at ≤ length text.now }
-    ensures { result ≡ ends.ends_line (drop at text.now) }
-{
-    match &text[at..] {
-        [b'\n', ..] => true,
-        [b'\r', b'\n', ..] => true,
-        _ => false,
-    }
-}
+use memchr::memchr;
 
 /// The number of bytes of the first line.
 fn line_len(text: &[u8]) -> usize
     ensures value { result ≡ ends.line_len text.now }
     ensures within { result ≤ length text.now }
 {
-    let mut at = 0;
-    while at < text.len() && !ends_line(text, at) {
-        at += 1;
+    match memchr(b'\n', text) {
+        Some(newline) => line_len_before(text, newline),
+        None => text.len(),
     }
-    at
+}
+
+/// The number of bytes of the line that this newline ends.
+fn line_len_before(text: &[u8], newline: usize) -> usize
+    requires { IsFirstByte (is_byte 10) text.now (Some newline) }
+    ensures value { result ≡ ends.line_len text.now }
+    ensures within { result ≤ length text.now }
+{
+    if newline > 0 && text[newline - 1] == b'\r' {
+        newline - 1
+    } else {
+        newline
+    }
 }
 
 /// What stands behind the line end at the front.

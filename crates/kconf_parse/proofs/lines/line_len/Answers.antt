@@ -1,12 +1,5 @@
-use Rattle.std.proofs.Common.{◌≡◌, false, rules, arith, drop}
-use Rattle.kconf_parse.specs.LineEnds.{ends_line}
-use Rattle.kconf_parse.proofs.LinesLemmas.{passed}
+use Rattle.kconf_parse.proofs.LinesLemmas.{no_end}
 use Rattle.kconf_parse.proofs.lines.line_len.Goals as goal
 
-pub loop-at-preserved : goal.loop-at-preserved
-loop-at-preserved c =
-    let none : ends_line (drop c.loop-at.at c.args.text.now) ≡ false = search rules in
-    record {
-      within = omega arith;
-      left = passed c.args.text.now c.loop-at.at _ (omega arith) none c.loop-at.invariant.left;
-    }
+pub returns-in-None-clause-value : goal.returns-in-None-clause-value
+returns-in-None-clause-value c = no_end c.args.text.now c.in-None.ensures
