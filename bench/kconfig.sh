@@ -1,8 +1,10 @@
 #!/bin/sh
-# Times the reading of Kconfig trees (`kconf_parse::read_tree`) beside python3-kconfiglib's, each best of several in the same run, and
-# prints both times and their ratio: on a generated tree of 20,000 symbols in 1,500 texts, and on the Kconfig texts of a kernel where
-# their folder is named, with macros that ask a compiler replaced by `y`, and without what one of the two doesn't read (`imply`,
-# `visible if`, choices of type tristate, `modules` without `option`). The first tree is also timed beside a tenth of it.
+# Times the reading of Kconfig trees (`kconf_parse::read_tree`) beside python3-kconfiglib's and beside a run of the kernel's `conf`
+# (kconfig-frontends' kconfig-conf, which also sets each symbol and writes a configuration), each best of several in the same run, and
+# prints the times and their ratios: on a generated tree of 20,000 symbols in 1,500 texts, and on the Kconfig texts of a kernel where
+# their folder is named, with macros replaced by constants, and without what one of the three doesn't read (`imply`, `visible if`,
+# choices of type tristate, `modules` without `option`). The first tree is also timed beside a tenth of it. A tool that isn't
+# installed is left out.
 # Usage: bench/kconfig.sh [FOLDER]; PYTHON names the Python that has kconfiglib, else it is python3.
 set -e
 here=$(cd "$(dirname "$0")/.." && pwd)
@@ -10,6 +12,7 @@ here=$(cd "$(dirname "$0")/.." && pwd)
 python=${PYTHON:-python3}
 . "$here/bench/driver.sh"
 . "$here/bench/kconfig_tree.sh"
+. "$here/bench/kernel_texts.sh"
 new_driver kconfig_times 'indexmap sqlite_items thiserror' ut_base ut_logic kconf_parse
 
 cat >crates/kconfig_times/src/main.rt <<'RT'
@@ -70,7 +73,16 @@ PY
 
 best() { sort -n "$1" | head -n 1; }
 
-# beside NAME: both times for the tree in the current folder.
+# conf_times: what runs of the kernel's configurator take over the tree in the current folder.
+conf_times() {
+    for _ in 1 2 3 4 5 6 7 8 9; do
+        start=$(date +%s%N)
+        kconfig-conf --allnoconfig Kconfig >/dev/null 2>&1 || return 0
+        echo $((($(date +%s%N) - start) / 1000))
+    done
+}
+
+# beside NAME: the times for the tree in the current folder.
 beside() {
     "$program" Kconfig >"$data/$1.times"
     ours=$(best "$data/$1.times")
@@ -79,6 +91,10 @@ beside() {
         theirs=$("$python" "$data/times.py")
         echo "$1: kconfiglib ${theirs% *} us, ${theirs#* } symbols; $(echo "${theirs% *} ${ours% *}" | awk '{ printf "%.1f", $1 / $2 }') times as long"
     fi
+    if command -v kconfig-conf >/dev/null; then
+        conf_times >"$data/$1.conf"
+        [ ! -s "$data/$1.conf" ] || echo "$1: conf $(best "$data/$1.conf") us; $(echo "$(best "$data/$1.conf") ${ours% *}" | awk '{ printf "%.1f", $1 / $2 }') times as long"
+    fi
 }
 
 (cd large && beside large)
@@ -86,32 +102,8 @@ beside() {
 echo "ten times the symbols: $(echo "$(best large.times) $(best small.times)" | awk '{ printf "%.1f", $1 / $3 }') times as long"
 
 if [ -n "$kernel" ]; then
-    (cd "$kernel" && find . -name 'Kconfig*' -type f | cpio -pdm "$data/kernel" 2>/dev/null)
+    kernel_texts "$kernel"
     cd "$data/kernel"
-    cat >"$data/plain.py" <<'PY'
-import os, re
-call = re.compile(r"\$\((?!SRCARCH\))[^()]*(\([^()]*(\([^()]*\)[^()]*)*\)[^()]*)*\)")
-dropped = re.compile(r"\s*(source \"scripts/Kconfig.include\"|imply |visible if )")
-def plain(lines):
-    in_choice = False
-    for line in lines:
-        if dropped.match(line):
-            continue
-        if re.match(r"choice\b", line):
-            in_choice = True
-        if re.match(r"endchoice\b", line):
-            in_choice = False
-        if in_choice:
-            line = re.sub(r"^(\s*)tristate\b", r"\1bool", line)
-        line = re.sub(r"^(\s+)modules$", r"\1option modules", line)
-        yield call.sub("y", line)
-for folder, _, names in os.walk("."):
-    for name in names:
-        path = os.path.join(folder, name)
-        text = open(path, encoding="latin-1").read()
-        open(path, "w", encoding="latin-1").write("\n".join(plain(text.split("\n"))))
-PY
-    "$python" "$data/plain.py"
     export srctree=. SRCARCH=x86
     beside kernel
 fi
