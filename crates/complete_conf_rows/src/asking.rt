@@ -1,7 +1,7 @@
 //! What is asked of trees with configurations, in tables of rows.
 use crate::configs::{config_of, fits, known_of, push_letters};
-use crate::drafts::built;
 use complete_conf::{Config, Known, complete, is_valid};
+use kconf_notation::built;
 use kconf_tree::Tree;
 use std::alloc::{AllocError, Global};
 

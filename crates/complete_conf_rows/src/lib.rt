@@ -1,6 +1,6 @@
 //! Worked rows: small trees with configurations, each with what the rules make of it, worked out by hand.
 //!
-//! The crate has tests alone.
+//! The crate has tests alone. Trees are written in the notation of `kconf_notation`.
 #![tactic(auto)]
 
 #[cfg(test)]
@@ -9,8 +9,6 @@ mod asking;
 mod completions;
 #[cfg(test)]
 mod configs;
-#[cfg(test)]
-mod drafts;
 #[cfg(test)]
 mod texts;
 #[cfg(test)]

@@ -1,6 +1,6 @@
 use crate::configs::{config_of, fits};
-use crate::drafts::built;
 use complete_conf::{Config, calc, config_text};
+use kconf_notation::built;
 use kconf_tree::Tree;
 use std::alloc::{AllocError, Global};
 use ut_logic::Trit;

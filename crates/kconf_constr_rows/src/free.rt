@@ -1,4 +1,4 @@
-use crate::building::{expr, tree};
+use crate::reading::{expr, tree};
 use crate::writing::{held, push_formula};
 use kconf_constr::{constraints, free_constraints, free_not_n};
 use std::test::Fail;
@@ -7,10 +7,18 @@ use std::test::Fail;
 #[test]
 fn undeclared_names_are_n_or_free(rt: HostRuntime) -> Result<(), Fail> {
     let rows = [
-        ("A bool p:Z", "yes !y0 yes", "yes (!y0|u0) yes"),
-        ("A bool p:Z=y", "yes !y0 yes", "yes (!y0|u0) yes"),
         (
-            "A bool p:Z&B d:y:Q;B bool p:y",
+            "config A\n bool \"a\" if Z",
+            "yes !y0 yes",
+            "yes (!y0|u0) yes",
+        ),
+        (
+            "config A\n bool \"a\" if Z = y",
+            "yes !y0 yes",
+            "yes (!y0|u0) yes",
+        ),
+        (
+            "config A\n bool \"a\" if Z && B\n default y if Q\nconfig B\n bool \"b\"",
             "yes !y0 yes; yes yes yes",
             "yes (!y0|(u1&y1)|u0) ((u1&y1)|!u0|y0); yes yes yes",
         ),
@@ -29,9 +37,12 @@ fn undeclared_names_are_n_or_free(rt: HostRuntime) -> Result<(), Fail> {
 // A condition of declared and undeclared names.
 #[test]
 fn a_condition_names_what_is_free(rt: HostRuntime) -> Result<(), Fail> {
-    let tree = tree(rt.alloc(), "A bool p:Z;B bool p:Q")?;
+    let tree = tree(
+        rt.alloc(),
+        "config A\n bool \"a\" if Z\nconfig B\n bool \"b\" if Q",
+    )?;
     let names = tree.undeclared(rt.alloc())?;
-    let rows = [("Z", "u1"), ("!Q", "!u0"), ("A&Z", "(y0&u1)")];
+    let rows = [("Z", "u1"), ("!Q", "!u0"), ("A && Z", "(y0&u1)")];
     for (written, want) in rows {
         let e = expr(rt.alloc(), written)?;
         let mut got = String::new(rt.alloc());

@@ -1,4 +1,4 @@
-use crate::building::tree;
+use crate::reading::tree;
 use crate::writing::held;
 use kconf_constr::constraints;
 use std::test::Fail;
@@ -8,15 +8,21 @@ use std::test::Fail;
 fn tristate_symbols_hold_both_values(rt: HostRuntime) -> Result<(), Fail> {
     let rows = [
         (
-            "M bool p:y modules;A tristate p:y;B tristate p:A",
+            "config M\n bool \"m\"\n modules\nconfig A\n tristate \"a\"\nconfig B\n tristate \"b\" if A",
             "yes yes yes; (!y1|!m1) (!m1|y0) yes yes yes yes yes yes; (!y2|!m2) (!m2|y0) yes (!(y2|m2)|(y1|m1)) yes yes (!y2|y1|!y0) yes",
         ),
         (
-            "M bool p:y modules;A tristate p:y;B bool p:A",
+            "config M\n bool \"m\"\n modules\nconfig A\n tristate \"a\"\nconfig B\n bool \"b\" if A",
             "yes yes yes; (!y1|!m1) (!m1|y0) yes yes yes yes yes yes; yes (!y2|(y1|m1)) yes",
         ),
-        ("A tristate p:y", "(!y0|!m0) !m0 yes yes yes yes yes yes"),
-        ("S int p:y;N untyped p:y;A bool p:S", "; ; yes !y2 yes"),
+        (
+            "config A\n tristate \"a\"",
+            "(!y0|!m0) !m0 yes yes yes yes yes yes",
+        ),
+        (
+            "config S\n int \"s\"\nconfig N\n prompt \"n\"\nconfig A\n bool \"a\" if S",
+            "; ; yes !y2 yes",
+        ),
     ];
     for (written, want) in rows {
         let facts = constraints(rt.alloc(), &tree(rt.alloc(), written)?)?;
@@ -31,15 +37,15 @@ fn tristate_symbols_hold_both_values(rt: HostRuntime) -> Result<(), Fail> {
 fn a_choice_holds_what_its_members_do(rt: HostRuntime) -> Result<(), Fail> {
     let rows = [
         (
-            "X bool c:0 p:y;Y bool c:0 p:y/p:y",
+            "choice\n bool \"c\"\nconfig X\n bool \"x\"\nconfig Y\n bool \"y\"\nendchoice",
             "; ; yes c0 (!y0|c0) yes (!y1|c0) yes (!y0|!y1) (!c0|y0|y1) (!c0|y0|y1)",
         ),
         (
-            "X bool c:0 p:y;Y bool c:0 p:y/optional p:y",
+            "choice\n bool \"c\"\n optional\nconfig X\n bool \"x\"\nconfig Y\n bool \"y\"\nendchoice",
             "; ; yes (!y0|c0) yes (!y1|c0) yes (!y0|!y1) (!c0|y0|y1) (!c0|y0|y1)",
         ),
         (
-            "A bool p:y;X bool c:0 p:A/p:A",
+            "config A\n bool \"a\"\nchoice\n bool \"c\" if A\nconfig X\n bool \"x\" if A\nendchoice",
             "yes yes yes; ; (!c0|y0) (!y0|c0) (!y1|c0) (!y1|y0) (!c0|!y0|y1)",
         ),
     ];

@@ -4,8 +4,6 @@
 #![tactic(auto)]
 
 #[cfg(test)]
-mod building;
-#[cfg(test)]
 mod conditions;
 #[cfg(test)]
 mod free;
@@ -13,6 +11,8 @@ mod free;
 mod kinds;
 #[cfg(test)]
 mod names;
+#[cfg(test)]
+mod reading;
 #[cfg(test)]
 mod rows;
 #[cfg(test)]

@@ -1,4 +1,4 @@
-use crate::building::tree;
+use crate::reading::tree;
 use crate::writing::named;
 use kconf_constr::constraints;
 use std::test::Fail;
@@ -7,16 +7,22 @@ use std::test::Fail;
 #[test]
 fn facts_name_what_their_nodes_refer_to(rt: HostRuntime) -> Result<(), Fail> {
     let rows = [
-        ("A bool p:y s:B:y;B bool", "s0::y0 s1:s0:y1"),
         (
-            "M bool p:y modules;A tristate p:y;B bool p:A",
+            "config A\n bool \"a\"\n select B\nconfig B\n bool",
+            "s0::y0 s1:s0:y1",
+        ),
+        (
+            "config M\n bool \"m\"\n modules\nconfig A\n tristate \"a\"\nconfig B\n bool \"b\" if A",
             "s0::y0 s1:s0:y1m1 s2:s1:y2",
         ),
         (
-            "A bool p:X;X bool c:0 p:y;Y bool c:0 p:y/p:y",
+            "config A\n bool \"a\" if X\nchoice\n bool \"c\"\nconfig X\n bool \"x\"\nconfig Y\n bool \"y\"\nendchoice",
             "s0:c0:y0 s1:c0:y1 s2:c0:y2 c0:s1s2:c0",
         ),
-        ("A bool p:$X;S int p:A", "s0::y0o0 s1:s0:"),
+        (
+            "config A\n bool \"a\" if $(X)\nconfig S\n int \"s\" if A",
+            "s0::y0o0 s1:s0:",
+        ),
     ];
     for (written, want) in rows {
         let facts = constraints(rt.alloc(), &tree(rt.alloc(), written)?)?;

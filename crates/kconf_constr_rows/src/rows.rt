@@ -1,4 +1,4 @@
-use crate::building::tree;
+use crate::reading::tree;
 use crate::writing::held;
 use kconf_constr::constraints;
 use std::test::Fail;
@@ -8,19 +8,19 @@ use std::test::Fail;
 fn bool_symbols_hold_what_their_properties_ask(rt: HostRuntime) -> Result<(), Fail> {
     let rows = [
         (
-            "A bool p:y s:B:y;B bool",
+            "config A\n bool \"a\"\n select B\nconfig B\n bool",
             "yes yes yes; (!y0|y1) (!y1|y0) yes",
         ),
         (
-            "C bool p:y;B bool p:C;A bool p:y s:B:y",
+            "config C\n bool \"c\"\nconfig B\n bool \"b\" if C\nconfig A\n bool \"a\"\n select B",
             "yes yes yes; (!y2|y1) (!y1|y0|y2) yes; yes yes yes",
         ),
         (
-            "A bool p:y;B bool p:A;Z bool d:y:y",
+            "config A\n bool \"a\"\nconfig B\n bool \"b\" if A\nconfig Z\n def_bool y",
             "yes yes yes; yes (!y1|y0) yes; yes yes y2",
         ),
         (
-            "P bool p:y;Q bool p:y;D bool d:y:P d:Q:y",
+            "config P\n bool \"p\"\nconfig Q\n bool \"q\"\nconfig D\n def_bool y if P\n default Q",
             "yes yes yes; yes yes yes; yes (!y2|(y0|(!y0&y1))) (!(y0|(!y0&y1))|y2)",
         ),
     ];

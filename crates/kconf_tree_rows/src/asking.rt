@@ -1,5 +1,5 @@
 //! What is asked of trees, in tables: a row is the answer that is wanted, a blank, and the lines of a tree.
-use crate::drafts::{built, side};
+use kconf_notation::{built, side};
 use kconf_parse::Sign;
 use kconf_tree::{Selector, Tree, TreeBad};
 use std::alloc::{AllocError, Global};

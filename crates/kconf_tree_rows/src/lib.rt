@@ -1,6 +1,6 @@
 //! Worked rows: small trees, each with what the rules of references make of it.
 //!
-//! The crate has tests alone. A row is a tree in a short notation, and its order, its cycle or another answer, worked
+//! The crate has tests alone. A row is a tree in the notation of `kconf_notation`, and its order, its cycle or another answer, worked
 //! out by hand.
 #![tactic(auto)]
 
@@ -12,8 +12,6 @@ mod asking;
 mod choices;
 #[cfg(test)]
 mod cycles;
-#[cfg(test)]
-mod drafts;
 #[cfg(test)]
 mod limits;
 #[cfg(test)]

@@ -58,7 +58,7 @@ fn what_a_comparison_refers_to(rt: HostRuntime) -> Result<(), AllocError> {
         "AB A=B5 BpA",
         "ABA! A=By BpA",
         "ABA! A=BZ BpA",
-        // a string
+        // a number
         "ABC A=BC BwA CpB",
         // a symbol without a type
         "ABA! A=BC BuA CpB",
