@@ -1,7 +1,34 @@
 use crate::reading::{expr, tree};
 use crate::writing::push_formula;
 use kconf_constr::{is_y, not_n};
+use kconf_tree::Tree;
+use std::alloc::Global;
+use std::process::Abort;
 use std::test::Fail;
+
+/// Both formulas of a condition, with one blank between.
+fn formulas(alloc: Global, tree: &Tree, condition: &str) -> Result<String, Fail> {
+    let e = expr(alloc, condition)?;
+    let mut text = String::new(alloc);
+    push_formula(&mut text, &not_n(alloc, tree, &e)?)?;
+    text.push_str(" ")?;
+    push_formula(&mut text, &is_y(alloc, tree, &e)?)?;
+    Ok(text)
+}
+
+/// Each condition, with its formulas.
+fn check_conditions(
+    rt: &impl Abort,
+    alloc: Global,
+    tree: &Tree,
+    rows: &[(&str, &str)],
+) -> Result<(), Fail> {
+    for (condition, want) in rows {
+        let got = formulas(alloc, tree, *condition)?;
+        assert!(rt; got.as_bytes() == want.as_bytes(), "{condition}: {got}");
+    }
+    Ok(())
+}
 
 // One condition of each kind, in a tree with a bool, a tristate, a number and the modules symbol.
 #[test]
@@ -25,13 +52,5 @@ fn conditions_have_two_formulas(rt: HostRuntime) -> Result<(), Fail> {
         ("A = n", "!(y1|m1) !(y1|m1)"),
         ("A != m", "!((y1|m1)&!y1) !((y1|m1)&!y1)"),
     ];
-    for (written, want) in rows {
-        let e = expr(rt.alloc(), written)?;
-        let mut got = String::new(rt.alloc());
-        push_formula(&mut got, &not_n(rt.alloc(), &tree, &e)?)?;
-        got.push_str(" ")?;
-        push_formula(&mut got, &is_y(rt.alloc(), &tree, &e)?)?;
-        assert!(rt; got.as_str() == want, "{written}: {got}");
-    }
-    Ok(())
+    check_conditions(&rt, rt.alloc(), &tree, rows.as_slice())
 }

@@ -1,7 +1,23 @@
 use crate::reading::{expr, tree};
 use crate::writing::{held, push_formula};
 use kconf_constr::{constraints, free_constraints, free_not_n};
+use kconf_tree::Tree;
+use std::alloc::Global;
+use std::process::Abort;
 use std::test::Fail;
+
+/// Each text, with what the facts of its tree hold, and what they hold where undeclared names are free.
+fn check_both(rt: &impl Abort, alloc: Global, rows: &[(&str, &str, &str)]) -> Result<(), Fail> {
+    for (text, want, free) in rows {
+        let tree = tree(alloc, *text)?;
+        let names = tree.undeclared(alloc)?;
+        let got = held(alloc, &constraints(alloc, &tree)?)?;
+        assert!(rt; got.as_bytes() == want.as_bytes(), "{text}: {got}");
+        let got = held(alloc, &free_constraints(alloc, &tree, &names)?)?;
+        assert!(rt; got.as_bytes() == free.as_bytes(), "{text}: {got}");
+    }
+    Ok(())
+}
 
 // An undeclared name is n, or has an item by its place among the undeclared names in order of bytes.
 #[test]
@@ -23,13 +39,22 @@ fn undeclared_names_are_n_or_free(rt: HostRuntime) -> Result<(), Fail> {
             "yes (!y0|(u1&y1)|u0) ((u1&y1)|!u0|y0); yes yes yes",
         ),
     ];
-    for (written, want, free) in rows {
-        let tree = tree(rt.alloc(), written)?;
-        let names = tree.undeclared(rt.alloc())?;
-        let got = held(rt.alloc(), &constraints(rt.alloc(), &tree)?)?;
-        assert!(rt; got.as_str() == want, "{written}: {got}");
-        let got = held(rt.alloc(), &free_constraints(rt.alloc(), &tree, &names)?)?;
-        assert!(rt; got.as_str() == free, "{written}: {got}");
+    check_both(&rt, rt.alloc(), rows.as_slice())
+}
+
+/// Each condition, with the formula that it isn't n where the tree's undeclared names are free.
+fn check_free(
+    rt: &impl Abort,
+    alloc: Global,
+    tree: &Tree,
+    rows: &[(&str, &str)],
+) -> Result<(), Fail> {
+    let names = tree.undeclared(alloc)?;
+    for (condition, want) in rows {
+        let e = expr(alloc, *condition)?;
+        let mut got = String::new(alloc);
+        push_formula(&mut got, &free_not_n(alloc, tree, &names, &e)?)?;
+        assert!(rt; got.as_bytes() == want.as_bytes(), "{condition}: {got}");
     }
     Ok(())
 }
@@ -41,13 +66,6 @@ fn a_condition_names_what_is_free(rt: HostRuntime) -> Result<(), Fail> {
         rt.alloc(),
         "config A\n bool \"a\" if Z\nconfig B\n bool \"b\" if Q",
     )?;
-    let names = tree.undeclared(rt.alloc())?;
     let rows = [("Z", "u1"), ("!Q", "!u0"), ("A && Z", "(y0&u1)")];
-    for (written, want) in rows {
-        let e = expr(rt.alloc(), written)?;
-        let mut got = String::new(rt.alloc());
-        push_formula(&mut got, &free_not_n(rt.alloc(), &tree, &names, &e)?)?;
-        assert!(rt; got.as_str() == want, "{written}: {got}");
-    }
-    Ok(())
+    check_free(&rt, rt.alloc(), &tree, rows.as_slice())
 }

@@ -1,6 +1,4 @@
-use crate::reading::tree;
-use crate::writing::held;
-use kconf_constr::constraints;
+use crate::checking::check_held;
 use std::test::Fail;
 
 // Without modules m is no value, and a bool takes y for the m of what it depends on.
@@ -24,12 +22,7 @@ fn tristate_symbols_hold_both_values(rt: HostRuntime) -> Result<(), Fail> {
             "; ; yes !y2 yes",
         ),
     ];
-    for (written, want) in rows {
-        let facts = constraints(rt.alloc(), &tree(rt.alloc(), written)?)?;
-        let got = held(rt.alloc(), &facts)?;
-        assert!(rt; got.as_str() == want, "{written}: {got}");
-    }
-    Ok(())
+    check_held(&rt, rt.alloc(), rows.as_slice())
 }
 
 // In mode y one visible member is y; an optional choice may have mode n.
@@ -49,10 +42,5 @@ fn a_choice_holds_what_its_members_do(rt: HostRuntime) -> Result<(), Fail> {
             "yes yes yes; ; (!c0|y0) (!y0|c0) (!y1|c0) (!y1|y0) (!c0|!y0|y1)",
         ),
     ];
-    for (written, want) in rows {
-        let facts = constraints(rt.alloc(), &tree(rt.alloc(), written)?)?;
-        let got = held(rt.alloc(), &facts)?;
-        assert!(rt; got.as_str() == want, "{written}: {got}");
-    }
-    Ok(())
+    check_held(&rt, rt.alloc(), rows.as_slice())
 }

@@ -1,6 +1,4 @@
-use crate::reading::tree;
-use crate::writing::named;
-use kconf_constr::constraints;
+use crate::checking::check_named;
 use std::test::Fail;
 
 // A fact names what its node refers to, members and choice both ways; its items are its own and the loose ones.
@@ -24,10 +22,5 @@ fn facts_name_what_their_nodes_refer_to(rt: HostRuntime) -> Result<(), Fail> {
             "s0::y0o0 s1:s0:",
         ),
     ];
-    for (written, want) in rows {
-        let facts = constraints(rt.alloc(), &tree(rt.alloc(), written)?)?;
-        let got = named(rt.alloc(), &facts)?;
-        assert!(rt; got.as_str() == want, "{written}: {got}");
-    }
-    Ok(())
+    check_named(&rt, rt.alloc(), rows.as_slice())
 }

@@ -1,6 +1,4 @@
-use crate::reading::tree;
-use crate::writing::held;
-use kconf_constr::constraints;
+use crate::checking::check_held;
 use std::test::Fail;
 
 // A select, a select against a dependency, and a default without a prompt.
@@ -24,10 +22,5 @@ fn bool_symbols_hold_what_their_properties_ask(rt: HostRuntime) -> Result<(), Fa
             "yes yes yes; yes yes yes; yes (!y2|(y0|(!y0&y1))) (!(y0|(!y0&y1))|y2)",
         ),
     ];
-    for (written, want) in rows {
-        let facts = constraints(rt.alloc(), &tree(rt.alloc(), written)?)?;
-        let got = held(rt.alloc(), &facts)?;
-        assert!(rt; got.as_str() == want, "{written}: {got}");
-    }
-    Ok(())
+    check_held(&rt, rt.alloc(), rows.as_slice())
 }
