@@ -1,4 +1,4 @@
-use crate::readings::{check_texts, told, var};
+use crate::readings::{check_texts, check_with_vars, vars_of};
 use std::test::Fail;
 
 #[test]
@@ -189,16 +189,14 @@ fn bytes_past_127(rt: HostRuntime) -> Result<(), Fail> {
 #[test]
 fn values_that_are_handed_in(rt: HostRuntime) -> Result<(), Fail> {
     let alloc = rt.alloc();
-    let mut vars = Vec::new(alloc);
-    for (name, value) in [
+    let pairs = [
         ("ARCH", "x86"),
         ("Y", "y"),
         ("BITS", "64"),
         ("Q", "$(z)"),
         ("E", ""),
-    ] {
-        vars.push(var(alloc, name, value)?)?;
-    }
+    ];
+    let vars = vars_of(alloc, pairs.as_slice())?;
     let rows = [
         ("config $(ARCH)", "x86 untyped depends y; "),
         ("config $(ARCH)_$(BITS)", "x86_64 untyped depends y; "),
@@ -230,9 +228,5 @@ fn values_that_are_handed_in(rt: HostRuntime) -> Result<(), Fail> {
         ),
         ("$(ARCH) A", ""),
     ];
-    for (text, want) in rows {
-        let shown = told(alloc, &[("Kconfig", text)], vars.as_slice())?;
-        assert!(rt; shown.as_slice() == want.as_bytes(), "{text}");
-    }
-    Ok(())
+    check_with_vars(&rt, alloc, vars.as_slice(), rows.as_slice())
 }

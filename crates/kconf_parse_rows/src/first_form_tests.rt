@@ -1,5 +1,6 @@
 use kconf_parse::{Expr, KconfBad, first_tree};
 use std::alloc::Global;
+use std::process::Abort;
 use std::test::Fail;
 use ut_base::{Limit, MemFile, MemFiles, Meter, Name};
 use ut_logic::Trit;
@@ -20,6 +21,15 @@ fn refused(alloc: Global, text: &str) -> Result<u32, Fail> {
         Err(KconfBad::NotYet { line, .. }) => Ok(line),
         Err(_) => Err(Fail::from("another refusal")),
     }
+}
+
+/// Each text, with the line that is refused.
+fn check_lines(rt: &impl Abort, alloc: Global, rows: &[(&str, u32)]) -> Result<(), Fail> {
+    for (text, want) in rows {
+        let line = refused(alloc, *text)?;
+        assert!(rt; line == *want, "{line} {want}");
+    }
+    Ok(())
 }
 
 #[test]
@@ -47,11 +57,7 @@ fn texts_of_the_first_form(rt: HostRuntime) -> Result<(), Fail> {
         ("config A\n\tbool \"a$\"\n", 2),
         ("config A\n\tbool \"a\" \n", 2),
     ];
-    for (text, want) in rows {
-        let line = refused(alloc, text)?;
-        assert!(rt; line == want, "{line} {want}");
-    }
-    Ok(())
+    check_lines(&rt, alloc, rows.as_slice())
 }
 
 #[test]

@@ -7,10 +7,19 @@ use ut_base::{MemFile, MemFiles, Meter, Name};
 use ut_logic::Text;
 
 /// A value that is handed in.
-pub fn var(alloc: Global, name: &str, value: &str) -> Result<Var, Fail> {
+fn var(alloc: Global, name: &str, value: &str) -> Result<Var, Fail> {
     let name = Text::new(alloc, name)?;
     let value = Text::new(alloc, value)?;
     Ok(Var { name, value })
+}
+
+/// Values that are handed in, each with its name.
+pub fn vars_of(alloc: Global, pairs: &[(&str, &str)]) -> Result<Vec<Var>, Fail> {
+    let mut vars = Vec::new(alloc);
+    for (name, value) in pairs {
+        vars.push(var(alloc, *name, *value)?)?;
+    }
+    Ok(vars)
 }
 
 fn mem_file(alloc: Global, name: &str, text: &str) -> Result<MemFile, Fail> {
@@ -50,11 +59,21 @@ pub fn told_where_reads_fail(
     Ok(shown)
 }
 
-/// Each text, with what reading it alone gives.
-pub fn check_texts(rt: &impl Abort, alloc: Global, rows: &[(&str, &str)]) -> Result<(), Fail> {
+/// Each text, with what reading it alone gives where these values are handed in.
+pub fn check_with_vars(
+    rt: &impl Abort,
+    alloc: Global,
+    vars: &[Var],
+    rows: &[(&str, &str)],
+) -> Result<(), Fail> {
     for (text, want) in rows {
-        let shown = told(alloc, &[("Kconfig", *text)], &[])?;
+        let shown = told(alloc, &[("Kconfig", *text)], vars)?;
         assert!(rt; shown.as_slice() == want.as_bytes(), "{text}");
     }
     Ok(())
+}
+
+/// Each text, with what reading it alone gives.
+pub fn check_texts(rt: &impl Abort, alloc: Global, rows: &[(&str, &str)]) -> Result<(), Fail> {
+    check_with_vars(rt, alloc, &[], rows)
 }

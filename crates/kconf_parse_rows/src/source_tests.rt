@@ -1,4 +1,4 @@
-use crate::readings::{told, told_where_reads_fail, var};
+use crate::readings::{told, told_where_reads_fail, vars_of};
 use kconf_parse::Var;
 use std::alloc::Global;
 use std::process::Abort;
@@ -11,7 +11,7 @@ fn check_sourced(
     root: &str,
     rows: &[(&str, &str)],
 ) -> Result<(), Fail> {
-    let vars = vec![in alloc; var(alloc, "SRCARCH", "x86")?]?;
+    let vars = vars_of(alloc, &[("SRCARCH", "x86")])?;
     for (inner, want) in rows {
         let texts = [("Kconfig", root), ("arch/x86/Kconfig", *inner)];
         let shown = told(alloc, texts.as_slice(), vars.as_slice())?;
@@ -83,6 +83,15 @@ fn nested(alloc: Global, count: usize, lines: &str) -> Result<String, Fail> {
     Ok(text)
 }
 
+/// So many openers round lines, with what the text gives.
+fn check_nested(rt: &impl Abort, alloc: Global, rows: &[(usize, &str, &str)]) -> Result<(), Fail> {
+    for (count, lines, want) in rows {
+        let text = nested(alloc, *count, *lines)?;
+        check_alone(rt, alloc, text.as_str(), &[], *want)?;
+    }
+    Ok(())
+}
+
 #[test]
 fn at_most_64_openers_are_open(rt: HostRuntime) -> Result<(), Fail> {
     let alloc = rt.alloc();
@@ -93,11 +102,7 @@ fn at_most_64_openers_are_open(rt: HostRuntime) -> Result<(), Fail> {
         (63, "choice\nmenu m\n", "Kconfig:65: Choice"),
         (64, "if A B\n", "Kconfig:65: Extra"),
     ];
-    for (count, lines, want) in rows {
-        let text = nested(alloc, count, lines)?;
-        check_alone(&rt, alloc, text.as_str(), &[], want)?;
-    }
-    Ok(())
+    check_nested(&rt, alloc, rows.as_slice())
 }
 
 /// A line with so many parentheses round a word.
@@ -113,6 +118,19 @@ fn bracketed(alloc: Global, before: &str, count: usize, behind: &str) -> Result<
     )?)
 }
 
+/// So many parentheses round a word, with what stands before and behind them and what the text gives.
+fn check_bracketed(
+    rt: &impl Abort,
+    alloc: Global,
+    rows: &[(usize, &str, &str, &str)],
+) -> Result<(), Fail> {
+    for (count, before, behind, want) in rows {
+        let text = bracketed(alloc, *before, *count, *behind)?;
+        check_alone(rt, alloc, text.as_str(), &[], *want)?;
+    }
+    Ok(())
+}
+
 #[test]
 fn at_most_200_signs_stand_over_a_word(rt: HostRuntime) -> Result<(), Fail> {
     let alloc = rt.alloc();
@@ -123,11 +141,9 @@ fn at_most_200_signs_stand_over_a_word(rt: HostRuntime) -> Result<(), Fail> {
         (201, "config A\ndepends on ", " x", "Kconfig:2: Extra"),
         (201, "config A\ndefault ", " if (", "Kconfig:2: Expression"),
         (201, "config A\nimply ", "", "Kconfig:2: NotYet"),
+        (5000, "config A\ndepends on ", "", "Kconfig:2: brackets"),
     ];
-    for (count, before, behind, want) in rows {
-        let text = bracketed(alloc, before, count, behind)?;
-        check_alone(&rt, alloc, text.as_str(), &[], want)?;
-    }
+    check_bracketed(&rt, alloc, rows.as_slice())?;
     let line = bracketed(alloc, "if ", 201, "\n")?;
     let text = nested(alloc, 64, line.as_str())?;
     check_alone(&rt, alloc, text.as_str(), &[], "Kconfig:65: brackets")
@@ -150,7 +166,7 @@ fn limits_on_texts(rt: HostRuntime) -> Result<(), Fail> {
         &[],
         "Kconfig:1: Macro",
     )?;
-    let vars = vec![in alloc; var(alloc, "SRCARCH", "x86")?]?;
+    let vars = vars_of(alloc, &[("SRCARCH", "x86")])?;
     check_alone(
         &rt,
         alloc,
@@ -160,6 +176,20 @@ fn limits_on_texts(rt: HostRuntime) -> Result<(), Fail> {
     )?;
     let long = "\n".repeat(alloc, 16_777_217)?;
     check_alone(&rt, alloc, long.as_str(), &[], "filebytes 16777217")
+}
+
+/// The number of the read that fails, with what is told then.
+fn check_read_faults(
+    rt: &impl Abort,
+    alloc: Global,
+    texts: &[(&str, &str)],
+    rows: &[(u64, &str)],
+) -> Result<(), Fail> {
+    for (number, want) in rows {
+        let shown = told_where_reads_fail(alloc, texts, &[], &[*number])?;
+        assert!(rt; shown.as_slice() == want.as_bytes(), "{want}");
+    }
+    Ok(())
 }
 
 #[test]
@@ -176,9 +206,5 @@ fn the_read_that_fails_is_told(rt: HostRuntime) -> Result<(), Fail> {
         (3, "b: ReadFault"),
         (4, "Kconfig:3: Word"),
     ];
-    for (number, want) in rows {
-        let shown = told_where_reads_fail(alloc, texts.as_slice(), &[], &[number])?;
-        assert!(rt; shown.as_slice() == want.as_bytes(), "{want}");
-    }
-    Ok(())
+    check_read_faults(&rt, alloc, texts.as_slice(), rows.as_slice())
 }

@@ -1,6 +1,4 @@
-use crate::readings::{check_texts, told, var};
-use std::alloc::Global;
-use std::process::Abort;
+use crate::readings::{check_texts, check_with_vars, vars_of};
 use std::test::Fail;
 
 #[test]
@@ -28,6 +26,7 @@ fn words_and_quotes(rt: HostRuntime) -> Result<(), Fail> {
         ("config A\ndefault B : C", "Kconfig:2: Extra"),
         ("config A\ndefault B, C", "Kconfig:2: Extra"),
         ("config A\ndefault B \\C", "Kconfig:2: Extra"),
+        ("config A\ndefault B $C", "Kconfig:2: Extra"),
         ("config A\nprompt \"a\\", "Kconfig:2: Quote"),
         ("config A\nprompt \"a $(b\" c", "Kconfig:2: Quote"),
     ];
@@ -63,22 +62,11 @@ fn lines_that_go_on(rt: HostRuntime) -> Result<(), Fail> {
     check_texts(&rt, rt.alloc(), rows.as_slice())
 }
 
-/// Each text, with what reading it alone gives where three values are handed in.
-fn check_replaced(rt: &impl Abort, alloc: Global, rows: &[(&str, &str)]) -> Result<(), Fail> {
-    let vars = vec![in alloc;
-        var(alloc, "ARCH", "x86")?,
-        var(alloc, "Q", "\"$(ARCH)\" #")?,
-        var(alloc, "E", "")?,
-    ]?;
-    for (text, want) in rows {
-        let shown = told(alloc, &[("Kconfig", *text)], vars.as_slice())?;
-        assert!(rt; shown.as_slice() == want.as_bytes(), "{text}");
-    }
-    Ok(())
-}
-
 #[test]
 fn quotes_and_macro_calls(rt: HostRuntime) -> Result<(), Fail> {
+    let alloc = rt.alloc();
+    let pairs = [("ARCH", "x86"), ("Q", "\"$(ARCH)\" #"), ("E", "")];
+    let vars = vars_of(alloc, pairs.as_slice())?;
     let rows = [
         ("source \"a/$(ARCH)/K\"", "a/x86/K: Missing"),
         ("source a/$(ARCH)/$(NO)", "Kconfig:1: Macro"),
@@ -100,5 +88,5 @@ fn quotes_and_macro_calls(rt: HostRuntime) -> Result<(), Fail> {
             "A untyped depends y default n '' if x86; ",
         ),
     ];
-    check_replaced(&rt, rt.alloc(), rows.as_slice())
+    check_with_vars(&rt, alloc, vars.as_slice(), rows.as_slice())
 }

@@ -1,8 +1,9 @@
 use kconf_parse::{ChoiceEntry, ConfigEntry, DefaultOf, Entries, Expr, Kind};
 use kconf_tree::{Tree, TreeBad, have_choices};
 use std::alloc::{AllocError, Global};
+use std::test::Fail;
 use ut_base::Limit;
-use ut_logic::{Sequence, Text, Trit};
+use ut_logic::{Node, Sequence, Text, Trit};
 
 /// So many defaults.
 fn defaults(alloc: Global, count: u32) -> Result<Sequence<DefaultOf>, AllocError> {
@@ -112,5 +113,50 @@ fn limits_of_symbols_and_members(rt: HostRuntime) -> Result<(), AllocError> {
 fn limits_of_defaults(rt: HostRuntime) -> Result<(), AllocError> {
     assert!(rt; of_defaults(rt.alloc(), 1_024)? == ("none", 0));
     assert!(rt; of_defaults(rt.alloc(), 1_025)? == ("defaults", 1_025));
+    Ok(())
+}
+
+/// A symbol, with a prompt if the next one.
+fn link(alloc: Global, number: u32) -> Result<ConfigEntry, AllocError> {
+    let own = format!(in alloc; "S{number}")?;
+    let next = format!(in alloc; "S{}", number as u64 + 1)?;
+    let mut prompts = Vec::new(alloc);
+    prompts.push(Expr::Name(Text::new(alloc, &next)?))?;
+    Ok(ConfigEntry {
+        name: Text::new(alloc, &own)?,
+        kind: Kind::Bool,
+        depends: Expr::Const(Trit::Y),
+        prompts: Sequence::from_vec(prompts),
+        defaults: Sequence::new(alloc),
+        selects: Sequence::new(alloc),
+        implies: Sequence::new(alloc),
+        modules: false,
+        choice: None,
+    })
+}
+
+/// How long the order of so many links is, with its first and last node.
+fn chain_order(alloc: Global, count: u32) -> Result<(usize, Option<Node>, Option<Node>), Fail> {
+    let mut configs = Vec::new(alloc);
+    for number in 0..count {
+        configs.push(link(alloc, number)?)?;
+    }
+    let entries = Entries {
+        configs: Sequence::from_vec(configs),
+        choices: Sequence::new(alloc),
+    };
+    if !have_choices(&entries) {
+        return Err(Fail::from("a choice that is not there"));
+    }
+    let tree = Tree::build(alloc, entries)?;
+    let order = tree.order();
+    Ok((order.len(), order.first().copied(), order.last().copied()))
+}
+
+// The search keeps its path in memory: as many symbols as there may be, each before the next.
+#[test]
+fn a_long_chain_has_an_order(rt: HostRuntime) -> Result<(), Fail> {
+    let want = (65_536, Some(Node::Sym(65_535)), Some(Node::Sym(0)));
+    assert!(rt; chain_order(rt.alloc(), 65_536)? == want);
     Ok(())
 }
