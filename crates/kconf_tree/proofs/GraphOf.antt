@@ -2,8 +2,8 @@
 use Rattle.std.proofs.Common.{◌≡◌, ℕ, zero, suc, ◌+◌, ◌<◌, ◌≤◌, Bool, true, false, not, ◌||◌, cond, List, [], ◌∷◌, length, map, filter, All, refl, ap, sym, subst, ◌∙◌, arith, inl, inr, ◌⊎◌}
 use Rattle.std.proofs.lemmas.Bool.{cases_lt}
 use Rattle.std.proofs.lemmas.List.{length-map, get_or_past}
-use Rattle.std.proofs.lemmas.List.Elements.{All-map, All-weaker, All-get_or, All-nil, All-contains}
-use Rattle.std.proofs.lemmas.List.FromFn.{length-range_with_len}
+use Rattle.std.proofs.lemmas.List.Elements.{All-head, All-tail, All-map, All-weaker, All-get_or, All-nil, All-contains}
+use Rattle.std.proofs.lemmas.List.FromFn.{length-range_with_len, get_or-map-range_with_len}
 use Rattle.std.specs.Cmp.{IsEquivalence, eq_by_cmp_equiv}
 use Rattle.std.specs.List.{list_any, range_with_len}
 use Rattle.ut_logic.specs.declared.node.Node.{Node}
@@ -14,7 +14,7 @@ use Rattle.kconf_tree.specs.References.{node_of, numbers_of, references_of}
 use Rattle.kconf_tree.specs.Orders.{nodes_of, place_of, graph_of}
 use Rattle.kconf_tree.specs.Graph.{IsGraph, Refers, refers_of}
 use Rattle.kconf_tree.specs.Links.{AreRowsBelow}
-use Rattle.kconf_tree.specs.Numbering.{lists_of, place_among, places_among, rows_among}
+use Rattle.kconf_tree.specs.Numbering.{each_at, lists_of, place_among, places_among, rows_among, symbol_places}
 use Rattle.kconf_tree.proofs.Places.{place_within, distinct_has}
 
 node_laws : IsEquivalence node_eq
@@ -75,6 +75,17 @@ module _ (t : Shape) where
       each : (ns : List Node) → map (places_among t (nodes_of t)) (map (numbers_of t) ns) ≡ map row_of ns
       each [] = refl
       each (n ∷ ns) = let one = map_map (place_of t) (node_of t) (numbers_of t n) in let rest = each ns in λ i. one i ∷ rest i
+
+  -- places that are looked up are those that are searched for
+  pub looked_up : (nodes : List Node) (rows : List (List ℕ)) → AreRowsBelow (length t.symbols) rows → map (each_at (symbol_places t nodes)) rows ≡ rows_among t nodes rows
+  looked_up nodes [] h = refl
+  looked_up nodes (row ∷ rows) h = let one = each row (All-head (All (λ k. k < length t.symbols)) row rows h) in
+      let rest = looked_up nodes rows (All-tail (All (λ k. k < length t.symbols)) row rows h) in λ i. one i ∷ rest i
+    where
+      each : (ks : List ℕ) → All (λ k. k < length t.symbols) ks → each_at (symbol_places t nodes) ks ≡ places_among t nodes ks
+      each [] g = refl
+      each (k ∷ ks) g = let one = get_or-map-range_with_len (λ j. place_among nodes (node_of t j)) 0 (length t.symbols) k k 0 (All-head (λ k. k < length t.symbols) k ks g) (omega arith) in
+          let rest = each ks (All-tail (λ k. k < length t.symbols) k ks g) in λ i. one i ∷ rest i
 
   rows_below : AreRowsBelow (length t.symbols) (lists_of t (nodes_of t)) → AreRowsBelow (length (nodes_of t)) (rows_among t (nodes_of t) (lists_of t (nodes_of t)))
   rows_below h = All-map (λ row. All (λ p. p < length (nodes_of t)) row) (places_among t (nodes_of t)) (lists_of t (nodes_of t))

@@ -1,4 +1,4 @@
-ghost use Rattle.std.specs.Prelude.{◌≡◌, length, IfOk, OnOk};
+ghost use Rattle.std.specs.Prelude.{◌≡◌, ◌++◌, length, IfOk, OnOk};
 ghost use Rattle.kconf_tree.specs.Gathered as spec;
 ghost use Rattle.kconf_tree.specs.Shape.{number_of};
 ghost use Rattle.kconf_tree.specs.Types.{types_of, typed};
@@ -21,6 +21,18 @@ fn member_choice(kind: Kind, choice: Option<u32>) -> Option<u32>
     }
 }
 
+/// Moves items to the end of a list; where that is empty, it becomes them as they stand.
+fn join<T: Drop>(list: &mut Items<T>, more: Items<T>) -> Result<(), AllocError>
+    ensures { OnOk result (list.new ≡ list.old ++ more) }
+{
+    if list.is_empty() {
+        *list = more;
+        Ok(())
+    } else {
+        list.append(more)
+    }
+}
+
 /// Moves the properties of one more entry into its symbol.
 fn add_entry(symbol: &mut Symbol, config: ConfigEntry) -> Result<(), AllocError>
     ensures { OnOk result (symbol.new ≡ with_entry symbol.old config) }
@@ -40,12 +52,10 @@ fn add_entry(symbol: &mut Symbol, config: ConfigEntry) -> Result<(), AllocError>
         symbol.member_of = member_choice(symbol.kind, choice);
     }
     symbol.places.push(depends)?;
-    symbol.prompts.append(Items::from_vec(prompts.into_vec()))?;
-    symbol
-        .defaults
-        .append(Items::from_vec(defaults.into_vec()))?;
-    symbol.selects.append(Items::from_vec(selects.into_vec()))?;
-    symbol.implies.append(Items::from_vec(implies.into_vec()))
+    join(&mut symbol.prompts, Items::from_vec(prompts.into_vec()))?;
+    join(&mut symbol.defaults, Items::from_vec(defaults.into_vec()))?;
+    join(&mut symbol.selects, Items::from_vec(selects.into_vec()))?;
+    join(&mut symbol.implies, Items::from_vec(implies.into_vec()))
 }
 
 /// The declared symbols, none with a property yet.

@@ -1,7 +1,6 @@
-ghost use Rattle.std.specs.Prelude.{◌≡◌, ◌<◌, ◌≤◌, ◌^◌, length, map, All, IfOk, OnOk};
-ghost use Rattle.kconf_tree.specs.Graph.{IsGraph};
+ghost use Rattle.std.specs.Prelude.{◌≡◌, ◌<◌, ◌≤◌, ◌^◌, length, map, All, IfOk};
 ghost use Rattle.kconf_tree.specs.Links.{AreRowsBelow};
-ghost use Rattle.kconf_tree.specs.Numbering.{lists_of, places_among, rows_among};
+ghost use Rattle.kconf_tree.specs.Numbering.{each_at, lists_of, symbol_places};
 ghost use Rattle.kconf_tree.specs.Orders.{nodes_of, graph_of};
 
 use crate::graph::Graph;
@@ -12,38 +11,41 @@ use sqlite_items::Items;
 use std::alloc::{AllocError, Global};
 use ut_logic::Node;
 
+/// What a list has at these places.
+fn each_of(alloc: Global, list: &[u32], places: &[u32]) -> Result<Vec<u32>, AllocError>
+    requires { All (λ p. p < length list.now) places.now }
+    ensures { IfOk result (λ v. v.items ≡ each_at list.now places.now) }
+{
+    let mut found = Vec::with_capacity(alloc, places.len())?;
+    for place in places {
+        found.push(list[*place as usize])?;
+    }
+    Ok(found)
+}
+
+/// What a list has at the places of each row.
+fn rows_of(alloc: Global, list: &[u32], rows: &[Items<u32>]) -> Result<Vec<Vec<u32>>, AllocError>
+    requires { AreRowsBelow (length list.now) rows.now }
+    ensures { IfOk result (λ v. map (λ row. row.items) v.items ≡ map (each_at list.now) rows.now) }
+{
+    let mut found = Vec::with_capacity(alloc, rows.len())?;
+    for row in rows {
+        found.push(each_of(alloc, list, row.as_slice())?)?;
+    }
+    Ok(found)
+}
+
 impl Parts {
-    /// The order numbers of the nodes of symbols.
-    fn places_in(
-        &self,
-        alloc: Global,
-        nodes: &IndexSet<Node>,
-        symbols: &[u32],
-    ) -> Result<Vec<u32>, AllocError>
-        requires within { All (λ k. k < length self.now.symbols) symbols.now }
-        requires nodes { nodes.now.keys ≡ nodes_of self.now }
-        requires few { length nodes.now.keys < 2 ^ 32 }
-        ensures places { IfOk result (λ v. v.items ≡ places_among self.now nodes.now.keys symbols.now) }
+    /// The order number of the node of each symbol.
+    fn symbol_places(&self, alloc: Global, nodes: &IndexSet<Node>) -> Result<Vec<u32>, AllocError>
+        requires { length nodes.now.keys < 2 ^ 32 }
+        ensures { IfOk result (λ v. v.items ≡ symbol_places self.now nodes.now.keys) }
     {
-        let mut places = Vec::with_capacity(alloc, symbols.len())?;
-        for symbol in symbols {
-            places.push(place(nodes, self.node_of(*symbol)) as u32)?;
+        let mut places = Vec::with_capacity(alloc, self.symbols() as usize)?;
+        for sym in 0..self.symbols() {
+            places.push(place(nodes, self.node_of(sym)) as u32)?;
         }
         Ok(places)
-    }
-
-    /// The order numbers of the nodes that each node refers to.
-    fn rows(&self, alloc: Global, found: &NodeLists) -> Result<Vec<Vec<u32>>, AllocError>
-        requires nodes { found.now.nodes.keys ≡ nodes_of self.now }
-        requires within { AreRowsBelow (length self.now.symbols) found.now.lists.items }
-        requires few { length found.now.nodes.keys < 2 ^ 32 }
-        ensures { IfOk result (λ rows. map (λ row. row.items) rows.items ≡ rows_among self.now found.now.nodes.keys found.now.lists.items) }
-    {
-        let mut rows = Vec::with_capacity(alloc, found.lists.len())?;
-        for list in &found.lists {
-            rows.push(self.places_in(alloc, &found.nodes, list.as_slice())?)?;
-        }
-        Ok(rows)
     }
 
     /// The graph of the nodes. The only error is want of memory.
@@ -54,7 +56,8 @@ impl Parts {
         requires few { length self.now.symbols ≤ 65536 }
         ensures { IfOk result (λ graph. graph ≡ graph_of self.now) }
     {
-        let rows = self.rows(alloc, found)?;
+        let places = self.symbol_places(alloc, &found.nodes)?;
+        let rows = rows_of(alloc, places.as_slice(), found.lists.as_slice())?;
         Ok(Graph::of(rows))
     }
 }
