@@ -3,7 +3,7 @@ use Rattle.std.proofs.Common.{◌≡◌, ℕ, ◌+◌, ◌<◌, Bool, true, fals
 use Rattle.std.proofs.lemmas.List.{map-append}
 use Rattle.std.specs.List.{find}
 use Rattle.kconf_tree.specs.declared.shape.Symbol.{Symbol}
-use Rattle.kconf_tree.specs.declared.shape.Selector.{Selector}
+use Rattle.kconf_tree.specs.Shape.{Selecting}
 use Rattle.kconf_tree.specs.Shape.{no_symbol, selects_at, selects_from}
 use Rattle.kconf_tree.specs.Value.{greatest}
 
@@ -31,7 +31,7 @@ greatest_append (x ∷ xs) ys = omega (arith, greatest_append xs ys)
 selects_more : (name : List ℕ) (ss : List Symbol) (k : ℕ) → k < length ss → selects_from name k (drop k ss) ≡ selects_at name k (get_or ss k no_symbol).selects ++ selects_from name (k + 1) (drop (k + 1) ss)
 selects_more name ss k l = rw (add-one, drop-cons ss k no_symbol) refl
 
-pub raised_more : (f : Selector → ℕ) (name : List ℕ) (ss : List Symbol) (k all m x : ℕ) → k < length ss → all ≡ max m (greatest (map f (selects_from name k (drop k ss)))) → x ≡ greatest (map f (selects_at name k (get_or ss k no_symbol).selects)) → all ≡ max (max m x) (greatest (map f (selects_from name (k + 1) (drop (k + 1) ss))))
+pub raised_more : (f : Selecting → ℕ) (name : List ℕ) (ss : List Symbol) (k all m x : ℕ) → k < length ss → all ≡ max m (greatest (map f (selects_from name k (drop k ss)))) → x ≡ greatest (map f (selects_at name k (get_or ss k no_symbol).selects)) → all ≡ max (max m x) (greatest (map f (selects_from name (k + 1) (drop (k + 1) ss))))
 raised_more f name ss k all m x l h e = let front = selects_at name k (get_or ss k no_symbol).selects in let rest = selects_from name (k + 1) (drop (k + 1) ss) in
     let whole : greatest (map f (selects_from name k (drop k ss))) ≡ max (greatest (map f front)) (greatest (map f rest)) = ap (λ ys. greatest (map f ys)) (selects_more name ss k l) ∙ (ap greatest (map-append f front rest) ∙ greatest_append (map f front) (map f rest)) in
     omega (arith, h, e, whole)

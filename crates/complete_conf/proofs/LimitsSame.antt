@@ -7,7 +7,7 @@ use Rattle.kconf_parse.specs.declared.entries.DefaultOf.{DefaultOf}
 use Rattle.kconf_parse.specs.declared.entries.SelectOf.{SelectOf}
 use Rattle.kconf_tree.specs.declared.shape.Counts.{Counts}
 use Rattle.kconf_tree.specs.declared.shape.Counts.TheVariants as counts
-use Rattle.kconf_tree.specs.declared.shape.Selector.{Selector}
+use Rattle.kconf_tree.specs.Shape.{Selecting}
 use Rattle.kconf_tree.specs.Shape.{Shape, symbol_at, choice_at, counts_as, selectors_of, impliers_of, number_of, counts_alone}
 use Rattle.kconf_tree.specs.declared.place.Place.TheVariants.{Condition, Value}
 use Rattle.kconf_tree.specs.Value.{Configuration, value_of, has_modules, greatest, stands_for}
@@ -60,7 +60,7 @@ module _ (t : Shape) (c d : Configuration) (alike : Alike c d) where
       let more = defaults_same ds (agree_right c d (of_default t e) (flat_map (of_default t) ds) h) in
       λ i. cond (one i == 0) (more i) (min (two i) (one i))
 
-  selected_same : (ss : List Selector) → Agree c d (flat_map (of_selector t) ss) → map (selected_by t c) ss ≡ map (selected_by t d) ss
+  selected_same : (ss : List Selecting) → Agree c d (flat_map (of_selector t) ss) → map (selected_by t c) ss ≡ map (selected_by t d) ss
   selected_same [] h = refl
   selected_same (s ∷ ss) h = let here = agree_left c d (of_selector t s) (flat_map (of_selector t) ss) h in
       let own = ap (stands_for (counts_as t s.by)) here.0 in

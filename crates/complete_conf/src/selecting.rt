@@ -2,7 +2,7 @@ ghost use Rattle.std.specs.Prelude.{◌≡◌, ◌<◌, length, map, All};
 ghost use Rattle.ut_logic.specs.Trit.{rank};
 ghost use Rattle.kconf_tree.specs.Value as value;
 ghost use Rattle.kconf_tree.specs.Properties as spec;
-ghost use Rattle.kconf_tree.specs.declared.shape.Selector as one;
+ghost use Rattle.kconf_tree.specs.Shape.{IsSelector, selecting_of};
 ghost use Rattle.complete_conf.specs.Config.{configuration_of};
 
 use crate::config::Config;
@@ -11,24 +11,25 @@ use kconf_tree::{Place, Selector, Tree};
 use ut_logic::{Trit, trit_and, trit_or};
 
 /// How far a select raises its target.
-fn selected(tree: &Tree, config: &Config, selector: &Selector) -> Trit
-    requires { selector.now.by < length tree.now.shape.symbols }
-    ensures { rank result ≡ spec.selected_by tree.now.shape (configuration_of config.now) selector.now }
+fn selected(tree: &Tree, config: &Config, selector: Selector) -> Trit
+    requires { IsSelector tree.now.shape selector }
+    ensures { rank result ≡ spec.selected_by tree.now.shape (configuration_of config.now) (selecting_of tree.now.shape selector) }
 {
+    let select = &tree.selects(selector.by)[selector.nth];
     trit_and(
         own_value(tree, config, selector.by),
-        value_in(tree, config, Place::Condition, &selector.cond),
+        value_in(tree, config, Place::Condition, &select.cond),
     )
 }
 
 /// How far selects raise their target.
 fn raised(tree: &Tree, config: &Config, selectors: &[Selector]) -> Trit
-    requires { All (λ (s : one.Selector). s.by < length tree.now.shape.symbols) selectors.now }
-    ensures { rank result ≡ value.greatest (map (spec.selected_by tree.now.shape (configuration_of config.now)) selectors.now) }
+    requires { All (IsSelector tree.now.shape) selectors.now }
+    ensures { rank result ≡ value.greatest (map (λ s. spec.selected_by tree.now.shape (configuration_of config.now) (selecting_of tree.now.shape s)) selectors.now) }
 {
     let mut greatest = Trit::N;
     for selector in selectors {
-        greatest = trit_or(greatest, selected(tree, config, selector));
+        greatest = trit_or(greatest, selected(tree, config, *selector));
     }
     greatest
 }

@@ -9,7 +9,7 @@ use Rattle.kconf_parse.specs.declared.expr.Expr.{Expr}
 use Rattle.kconf_parse.specs.declared.entries.DefaultOf.{DefaultOf}
 use Rattle.kconf_tree.specs.declared.shape.Counts.{Counts}
 use Rattle.kconf_tree.specs.declared.shape.Counts.TheVariants as counts
-use Rattle.kconf_tree.specs.declared.shape.Selector.{Selector}
+use Rattle.kconf_tree.specs.Shape.{Selecting}
 use Rattle.kconf_tree.specs.declared.place.Place.TheVariants.{Condition, Value}
 use Rattle.kconf_tree.specs.Shape.{symbol_at, choice_at, counts_as, counts_alone, selectors_of, impliers_of}
 use Rattle.kconf_tree.specs.References.{numbers_in, in_conditions, of_default, of_selector, of_type, of_implied, own_references, symbol_references, of_choice_default, choice_references}
@@ -41,11 +41,11 @@ module _ (Q R : ℕ → Type 0) (s : Scope) where
   condition_fine : (h : Half) (e : Expr) → AllByRecursion Q (numbers_in s.shape Condition e) → Fine Q R (condition_half s h e)
   condition_fine h e a = fine_half Q R h (halves s Condition e) (expr_fine Q R s Condition e a)
 
-  selected_fine : (h : Half) (x : Selector) → AllByRecursion Q (of_selector s.shape x) → Fine Q R (selected_half s h x)
+  selected_fine : (h : Half) (x : Selecting) → AllByRecursion Q (of_selector s.shape x) → Fine Q R (selected_half s h x)
   selected_fine h x a = fine_all Q R (half_of h (own_halves s x.by) ∷ condition_half s h x.cond ∷ [])
       (fine_two Q R (half_of h (own_halves s x.by)) (condition_half s h x.cond) (fine_half Q R h (own_halves s x.by) (own_fine Q R (counts_as s.shape x.by) x.by a.0)) (condition_fine h x.cond a.1))
 
-  selects_fine : (h : Half) (xs : List Selector) → AllByRecursion Q (flat_map (of_selector s.shape) xs) → AllFine Q R (map (selected_half s h) xs)
+  selects_fine : (h : Half) (xs : List Selecting) → AllByRecursion Q (flat_map (of_selector s.shape) xs) → AllFine Q R (map (selected_half s h) xs)
   selects_fine h [] a = fine_nil Q R
   selects_fine h (x ∷ xs) a = fine_cons Q R (selected_half s h x) (map (selected_half s h) xs)
       (selected_fine h x (front Q (of_selector s.shape x) (flat_map (of_selector s.shape) xs) a)) (selects_fine h xs (back Q (of_selector s.shape x) (flat_map (of_selector s.shape) xs) a))

@@ -8,7 +8,7 @@ use Rattle.ut_logic.specs.Truth.{truth, truths, all_true, any_true}
 use Rattle.ut_logic.proofs.FoldLaws.{truth-all_of, truth-any_of, truth-not_of}
 use Rattle.kconf_parse.specs.declared.expr.Expr.{Expr}
 use Rattle.kconf_parse.specs.declared.entries.DefaultOf.{DefaultOf}
-use Rattle.kconf_tree.specs.declared.shape.Selector.{Selector}
+use Rattle.kconf_tree.specs.Shape.{Selecting}
 use Rattle.kconf_tree.specs.Shape.{symbol_at, counts_as, selectors_of}
 use Rattle.kconf_tree.specs.declared.place.Place.TheVariants.{Condition, Value}
 use Rattle.kconf_tree.specs.Value.{Configuration, value_in, own_value, greatest}
@@ -132,10 +132,10 @@ module _ (s : Scope) (v : Item → Bool) where
   pub own_stands : (k : ℕ) → Stands v (own_halves s k) (own_value s.shape c k)
   own_stands k = stands_own v (counts_as s.shape k) k
 
-  selected_stands : (x : Selector) → Stands v (each (own_halves s x.by ∷ halves s Condition x.cond ∷ [])) (selected_by s.shape c x)
+  selected_stands : (x : Selecting) → Stands v (each (own_halves s x.by ∷ halves s Condition x.cond ∷ [])) (selected_by s.shape c x)
   selected_stands x = stands_pair v _ _ _ _ (own_stands x.by) (expr_right s v Condition x.cond)
 
-  fused : (h : Half) (xs : List Selector) → map (selected_half s h) xs ≡ map (half_of h) (map (λ x. each (own_halves s x.by ∷ halves s Condition x.cond ∷ [])) xs)
+  fused : (h : Half) (xs : List Selecting) → map (selected_half s h) xs ≡ map (half_of h) (map (λ x. each (own_halves s x.by ∷ halves s Condition x.cond ∷ [])) xs)
   fused h [] = refl
   fused NotN (x ∷ xs) = ap (λ fs. selected_half s NotN x ∷ fs) (fused NotN xs)
   fused IsY (x ∷ xs) = ap (λ fs. selected_half s IsY x ∷ fs) (fused IsY xs)

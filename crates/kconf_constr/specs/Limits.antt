@@ -5,7 +5,7 @@ use Rattle.ut_logic.specs.declared.formula.Formula.{Formula}
 use Rattle.ut_logic.specs.Fold.{all_of, any_of, not_of}
 use Rattle.kconf_parse.specs.declared.expr.Expr.{Expr}
 use Rattle.kconf_parse.specs.declared.entries.DefaultOf.{DefaultOf}
-use Rattle.kconf_tree.specs.declared.shape.Selector.{Selector}
+use Rattle.kconf_tree.specs.Shape.{Selecting}
 use Rattle.kconf_tree.specs.Shape.{symbol_at, selectors_of}
 use Rattle.kconf_tree.specs.declared.place.Place.TheVariants.{Condition, Value}
 use Rattle.kconf_constr.specs.declared.half.Half.{Half}
@@ -26,11 +26,11 @@ abbrev pub visibility_halves : Scope → ℕ → Halves
 visibility_halves s k = prompts_halves s (symbol_at s.shape k).prompts
 
 -- what one select raises its target to: the least of selector and condition
-abbrev pub selected_half : Scope → Half → Selector → Formula
+abbrev pub selected_half : Scope → Half → Selecting → Formula
 selected_half s h x = all_of (half_of h (own_halves s x.by) ∷ condition_half s h x.cond ∷ [])
 
 -- the greatest of these
-abbrev pub reverse_half : Scope → Half → List Selector → Formula
+abbrev pub reverse_half : Scope → Half → List Selecting → Formula
 reverse_half s h xs = any_of (map (selected_half s h) xs)
 
 -- the reverse dependency of a symbol

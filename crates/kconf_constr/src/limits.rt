@@ -1,7 +1,7 @@
 //! The formulas of a symbol's limits.
 
 ghost use Rattle.std.specs.Prelude.{◌≡◌, ◌<◌, ◌++◌, ◌∷◌, [], All, IfOk, OnOk, length, map};
-ghost use Rattle.kconf_tree.specs.declared.shape.Selector as one;
+ghost use Rattle.kconf_tree.specs.Shape.{IsSelector, selecting_of};
 ghost use Rattle.kconf_constr.specs.Halves.{half_of};
 ghost use Rattle.kconf_constr.specs.Limits as spec;
 
@@ -53,17 +53,13 @@ impl<'a> Scope<'a> {
     }
 
     /// What one select raises its target to.
-    fn selected(
-        &self,
-        alloc: Global,
-        selector: &Selector,
-        half: Half,
-    ) -> Result<Formula, AllocError>
-        requires { selector.now.by < length self.now.shape.symbols }
-        ensures { IfOk result (λ f. f ≡ spec.selected_half self.now half selector.now) }
+    fn selected(&self, alloc: Global, selector: Selector, half: Half) -> Result<Formula, AllocError>
+        requires { IsSelector self.now.shape selector }
+        ensures { IfOk result (λ f. f ≡ spec.selected_half self.now half (selecting_of self.now.shape selector)) }
     {
+        let select = &self.tree().selects(selector.by)[selector.nth];
         let own = self.own_half(alloc, selector.by, half)?;
-        let condition = self.condition(alloc, &selector.cond, half)?;
+        let condition = self.condition(alloc, &select.cond, half)?;
         Ok(all_of(vec![in alloc; own, condition]?))
     }
 
@@ -74,12 +70,12 @@ impl<'a> Scope<'a> {
         selectors: &[Selector],
         half: Half,
     ) -> Result<Formula, AllocError>
-        requires { All (λ (s : one.Selector). s.by < length self.now.shape.symbols) selectors.now }
-        ensures { IfOk result (λ f. f ≡ spec.reverse_half self.now half selectors.now) }
+        requires { All (IsSelector self.now.shape) selectors.now }
+        ensures { IfOk result (λ f. f ≡ spec.reverse_half self.now half (map (selecting_of self.now.shape) selectors.now)) }
     {
         let mut all = Vec::with_capacity(alloc, selectors.len())?;
         for selector in selectors {
-            all.push(self.selected(alloc, selector, half)?)?;
+            all.push(self.selected(alloc, *selector, half)?)?;
         }
         Ok(any_of(all))
     }

@@ -5,7 +5,7 @@
 use Rattle.std.specs.Prelude.{ℕ, ◌==◌, Bool, not, ◌&&◌, ◌||◌, List, [], ◌∷◌, if◌then◌else◌, min, map}
 use Rattle.std.specs.List.{list_any}
 use Rattle.kconf_parse.specs.declared.entries.DefaultOf.{DefaultOf}
-use Rattle.kconf_tree.specs.declared.shape.Selector.{Selector}
+use Rattle.kconf_tree.specs.Shape.{Selecting}
 use Rattle.kconf_tree.specs.Shape.{Shape, symbol_at, choice_at, selectors_of}
 use Rattle.kconf_tree.specs.Value.{Configuration, Value, value_in, value_of, own_value, greatest, is_text_or_number}
 
@@ -14,7 +14,7 @@ abbrev pub visibility_of : Shape → Configuration → ℕ → ℕ
 visibility_of t c k = greatest (map (value_of t c) (symbol_at t k).prompts)
 
 -- the maximum, over the selects of the symbol, of the minimum of selector and condition
-abbrev pub selected_by : Shape → Configuration → Selector → ℕ
+abbrev pub selected_by : Shape → Configuration → Selecting → ℕ
 selected_by t c s = min (own_value t c s.by) (value_of t c s.cond)
 
 -- the reverse dependency

@@ -19,7 +19,7 @@ use Rattle.kconf_parse.specs.declared.entries.DefaultOf.{DefaultOf}
 use Rattle.kconf_parse.specs.declared.entries.SelectOf.{SelectOf}
 use Rattle.kconf_tree.specs.declared.shape.Counts.{Counts}
 use Rattle.kconf_tree.specs.declared.shape.Counts.TheVariants as counts
-use Rattle.kconf_tree.specs.declared.shape.Selector.{Selector}
+use Rattle.kconf_tree.specs.Shape.{Selecting}
 use Rattle.kconf_tree.specs.Shape.{Shape, symbol_at, choice_at, is_the, number_of, counts_alone, counts_as, selectors_of, impliers_of}
 use Rattle.kconf_tree.specs.Value.{Place, Condition, Value, compares_trits}
 
@@ -68,7 +68,7 @@ abbrev pub of_default : Shape → DefaultOf → List ℕ
 of_default t d = numbers_in t Condition d.cond ++ numbers_in t Value d.value
 
 -- those of a select or an imply: the symbol that has it, and its condition
-abbrev pub of_selector : Shape → Selector → List ℕ
+abbrev pub of_selector : Shape → Selecting → List ℕ
 of_selector t s = s.by ∷ numbers_in t Condition s.cond
 
 -- what counts as tristate asks for the modules symbol
@@ -77,7 +77,7 @@ of_type t counts.Tristate = option_to_list t.modules
 of_type t c = []
 
 -- the dependencies of the places of a symbol that some symbol implies
-abbrev pub of_implied : Shape → List Selector → List Expr → List ℕ
+abbrev pub of_implied : Shape → List Selecting → List Expr → List ℕ
 of_implied t [] places = []
 of_implied t (s ∷ ss) places = in_conditions t places
 

@@ -1,11 +1,14 @@
 -- What contracts see of a tree: symbols and choices in order of first declaration, each with its
 -- properties, and the outer conditions; and what names and numbers stand for in it.
 -- Rule: Linux kconfig-language, "Menu attributes" and "Menu structure"; the numbers are this project's rule.
-use Rattle.std.specs.Prelude.{ℕ, ◌==◌, Bool, false, List, [], ◌∷◌, ◌++◌, Option, None, Some, if◌then◌else◌, position, get_or, suc, is_some}
+use Rattle.std.specs.Prelude.{ℕ, ◌==◌, ◌<◌, Bool, false, List, [], ◌∷◌, ◌++◌, Option, None, Some, if◌then◌else◌, position, get_or, length, suc, is_some}
 use Rattle.ut_logic.specs.Text.{text_eq}
+use Rattle.ut_logic.specs.declared.trit.Trit.TheVariants.{N}
 use Rattle.kconf_parse.specs.declared.entries.SelectOf.{SelectOf}
 use Rattle.kconf_parse.specs.declared.entries.Kind.{Kind}
 use Rattle.kconf_parse.specs.declared.entries.Kind.TheVariants as kind
+use Rattle.kconf_parse.specs.declared.expr.Expr.{Expr}
+use Rattle.kconf_parse.specs.declared.expr.Expr.TheVariants.{Const}
 use Rattle.kconf_tree.specs.declared.shape.Symbol.{Symbol}
 use Rattle.kconf_tree.specs.declared.shape.Choice.{Choice}
 use Rattle.kconf_tree.specs.declared.shape.Selector.{Selector}
@@ -73,25 +76,46 @@ counts_with t k (Some i) = counts_in (counts_alone (choice_at t i).kind) k
 abbrev pub counts_as : Shape → ℕ → Counts
 counts_as t k = if is_the t.modules k then counts.Bool else counts_with t (symbol_at t k).kind (symbol_at t k).member_of
 
+-- a select or an imply as its target sees it: the symbol that has it, and its full condition
+pub record Selecting : Type 0 where
+  pub by : ℕ
+  pub cond : Expr
+
+-- behind the last select there is nothing
+abbrev pub no_select : SelectOf
+no_select = record { target = []; cond = Const N }
+
+-- the one of these selects or implies of a symbol that is named by its place
+abbrev pub selecting_in : List SelectOf → Selector → Selecting
+selecting_in ss s = record { by = s.by; cond = (get_or ss s.nth no_select).cond }
+
+-- the select that is named by its symbol and its place
+abbrev pub selecting_of : Shape → Selector → Selecting
+selecting_of t s = selecting_in (symbol_at t s.by).selects s
+
+-- there is such a select
+abbrev pub IsSelector : Shape → Selector → Type 0
+IsSelector t s = (s.by < length t.symbols) × (s.nth < length (symbol_at t s.by).selects)
+
 -- who selects a symbol, in order of declaration
-abbrev pub selects_at : List ℕ → ℕ → List SelectOf → List Selector
+abbrev pub selects_at : List ℕ → ℕ → List SelectOf → List Selecting
 selects_at name j [] = []
 selects_at name j (s ∷ ss) = if text_eq s.target name then record { by = j; cond = s.cond } ∷ selects_at name j ss else selects_at name j ss
 
 -- the selects of this name by the symbols from number j on
-abbrev pub selects_from : List ℕ → ℕ → List Symbol → List Selector
+abbrev pub selects_from : List ℕ → ℕ → List Symbol → List Selecting
 selects_from name j [] = []
 selects_from name j (s ∷ ss) = selects_at name j s.selects ++ selects_from name (suc j) ss
 
 -- all selects of a symbol
-abbrev pub selectors_of : Shape → ℕ → List Selector
+abbrev pub selectors_of : Shape → ℕ → List Selecting
 selectors_of t k = selects_from (symbol_at t k).name 0 t.symbols
 
 -- likewise who implies it
-abbrev pub implies_from : List ℕ → ℕ → List Symbol → List Selector
+abbrev pub implies_from : List ℕ → ℕ → List Symbol → List Selecting
 implies_from name j [] = []
 implies_from name j (s ∷ ss) = selects_at name j s.implies ++ implies_from name (suc j) ss
 
 -- all implies of a symbol
-abbrev pub impliers_of : Shape → ℕ → List Selector
+abbrev pub impliers_of : Shape → ℕ → List Selecting
 impliers_of t k = implies_from (symbol_at t k).name 0 t.symbols

@@ -1,16 +1,17 @@
 ghost use Rattle.std.specs.Prelude.{◌≡◌, ◌<◌, [], length, IfOk, OnOk, replicate, slice_index_or};
-ghost use Rattle.kconf_tree.specs.Shape.{no_symbol};
+ghost use Rattle.kconf_tree.specs.Shape.{number_of, symbol_at};
 ghost use Rattle.ut_logic.specs.Text.{text_eq};
 ghost use Rattle.kconf_tree.specs.Apart.{AreApart};
 ghost use Rattle.kconf_tree.specs.Apart.{names_in};
-ghost use Rattle.kconf_tree.specs.Linking.{linked_one, linked_each, linked_all, list_of};
-ghost use Rattle.kconf_tree.specs.Links.{AreBelow, AreLinks};
+ghost use Rattle.kconf_tree.specs.Linking.{IsLinker, linked_each, linked_all, linker_of, list_of, with_one};
+ghost use Rattle.kconf_tree.specs.Links.{AreLinkers, AreLinks};
 
 use crate::parts::Parts;
 use crate::shape::Selector;
-use kconf_parse::SelectOf;
+use kconf_parse::{Expr, SelectOf};
 use sqlite_items::Items;
 use std::alloc::{AllocError, Global};
+use ut_logic::Text;
 
 /// Which of a symbol's properties lead to other symbols.
 #[derive(Clone, Copy)]
@@ -38,59 +39,60 @@ pub struct Links {
 }
 
 impl Parts {
-    /// Adds a select or an imply of a symbol to the row of its target.
+    /// What a symbol selects, or what it implies.
+    fn list(&self, link: Link, sym: u32) -> &[SelectOf]
+        requires { sym < length self.now.symbols }
+        ensures { result.now ≡ list_of link (symbol_at self.now sym) }
+    {
+        match link {
+            Link::Selects => self.selects(sym),
+            Link::Implies => self.implies(sym),
+        }
+    }
+
+    /// The full condition of a select or an imply.
+    pub(crate) fn condition(&self, link: Link, selector: Selector) -> &Expr
+        requires { IsLinker self.now link selector }
+        ensures { result.now ≡ (linker_of self.now link selector).cond }
+    {
+        &self.list(link, selector.by)[selector.nth].cond
+    }
+
+    /// Adds a select or an imply to the row of its target.
     fn link(
         &self,
-        alloc: Global,
-        by: u32,
-        select: &SelectOf,
+        selector: Selector,
+        target: &Text,
         rows: &mut Vec<Items<Selector>>,
     ) -> Result<(), AllocError>
         requires count { length rows.old.items ≡ length self.now.symbols }
-        requires by { by < length self.now.symbols }
-        requires within { AreBelow (length self.now.symbols) rows.old.items }
-        ensures rows { OnOk result (rows.new.items ≡ linked_one self.now by rows.old.items select.now) }
-        ensures within { OnOk result (AreBelow (length self.now.symbols) rows.new.items) }
+        ensures { OnOk result (rows.new.items ≡ with_one rows.old.items (number_of self.now target.now) selector) }
     {
-        match self.symbol(select.target.text()) {
+        match self.symbol(target.text()) {
             None => Ok(()),
-            Some(target) => {
-                let cond = select.cond.copy(alloc)?;
-                rows[target as usize].push(Selector { by, cond })
-            }
+            Some(target) => rows[target as usize].push(selector),
         }
     }
 
     /// Adds all selects or implies of a symbol.
     fn link_each(
         &self,
-        alloc: Global,
+        link: Link,
         by: u32,
-        list: &[SelectOf],
         rows: &mut Vec<Items<Selector>>,
     ) -> Result<(), AllocError>
         requires count { length rows.old.items ≡ length self.now.symbols }
         requires by { by < length self.now.symbols }
-        requires within { AreBelow (length self.now.symbols) rows.old.items }
-        ensures rows { OnOk result (rows.new.items ≡ linked_each self.now by rows.old.items list.now) }
+        requires within { AreLinkers self.now link rows.old.items }
+        ensures rows { OnOk result (rows.new.items ≡ linked_each self.now by 0 rows.old.items (list_of link (symbol_at self.now by))) }
         ensures count { OnOk result (length rows.new.items ≡ length rows.old.items) }
-        ensures within { OnOk result (AreBelow (length self.now.symbols) rows.new.items) }
+        ensures within { OnOk result (AreLinkers self.now link rows.new.items) }
     {
-        for select in list {
-            self.link(alloc, by, select, rows)?;
+        let list = self.list(link, by);
+        for nth in 0..list.len() {
+            self.link(Selector { by, nth }, &list[nth].target, rows)?;
         }
         Ok(())
-    }
-
-    /// What a symbol selects, or what it implies.
-    fn list(&self, link: Link, sym: u32) -> &[SelectOf]
-        requires { sym < length self.now.symbols }
-        ensures { result.now ≡ list_of link (slice_index_or self.now.symbols sym no_symbol) }
-    {
-        match link {
-            Link::Selects => self.selects(sym),
-            Link::Implies => self.implies(sym),
-        }
     }
 
     /// For each symbol, those that select or imply it.
@@ -101,11 +103,11 @@ impl Parts {
     ) -> Result<Vec<Items<Selector>>, AllocError>
         ensures rows { IfOk result (λ rows. rows.items ≡ linked_all self.now link 0 (replicate (length self.now.symbols) []) self.now.symbols) }
         ensures count { IfOk result (λ rows. length rows.items ≡ length self.now.symbols) }
-        ensures within { IfOk result (λ rows. AreBelow (length self.now.symbols) rows.items) }
+        ensures within { IfOk result (λ rows. AreLinkers self.now link rows.items) }
     {
         let mut rows = empty_rows(alloc, self.symbols())?;
         for sym in 0..self.symbols() {
-            self.link_each(alloc, sym, self.list(link, sym), &mut rows)?;
+            self.link_each(link, sym, &mut rows)?;
         }
         Ok(rows)
     }

@@ -1,11 +1,11 @@
-ghost use Rattle.std.specs.Prelude.{◌≡◌, ◌<◌, ◌++◌, length, All, OnOk};
+ghost use Rattle.std.specs.Prelude.{◌≡◌, ◌<◌, ◌++◌, length, map, All, OnOk};
 ghost use Rattle.std.specs.List.{flat_map};
 ghost use Rattle.kconf_tree.specs.Shape as shape;
 ghost use Rattle.kconf_tree.specs.References as spec;
+ghost use Rattle.kconf_tree.specs.Linking.{IsLinker, linker_of};
 ghost use Rattle.kconf_tree.specs.Links.{AreLinks};
-ghost use Rattle.kconf_tree.specs.declared.shape.Selector as one;
 
-use crate::links::Links;
+use crate::links::{Link, Links};
 use crate::parts::Parts;
 use crate::place::Place;
 use crate::references::push;
@@ -127,17 +127,18 @@ impl Parts {
     /// Adds what selects or implies bring in: the symbols that have them, and their conditions'.
     fn mention_selectors(
         &self,
+        link: Link,
         selectors: &[Selector],
         row: &mut Items<u32>,
     ) -> Result<(), AllocError>
-        requires selectors { All (λ (s : one.Selector). s.by < length self.now.symbols) selectors.now }
+        requires selectors { All (IsLinker self.now link) selectors.now }
         requires within { All (λ k. k < length self.now.symbols) row.old }
-        ensures row { OnOk result (row.new ≡ row.old ++ flat_map (spec.of_selector self.now) selectors.now) }
+        ensures row { OnOk result (row.new ≡ row.old ++ flat_map (spec.of_selector self.now) (map (linker_of self.now link) selectors.now)) }
         ensures within { OnOk result (All (λ k. k < length self.now.symbols) row.new) }
     {
         for selector in selectors {
             row.push(selector.by)?;
-            self.mention(Place::Condition, &selector.cond, row)?;
+            self.mention(Place::Condition, self.condition(link, *selector), row)?;
         }
         Ok(())
     }
@@ -156,8 +157,8 @@ impl Parts {
         ensures within { OnOk result (All (λ k. k < length self.now.symbols) row.new) }
     {
         self.mention_own(sym, links, row)?;
-        self.mention_selectors(links.selects[sym as usize].as_slice(), row)?;
-        self.mention_selectors(links.implies[sym as usize].as_slice(), row)
+        self.mention_selectors(Link::Selects, links.selects[sym as usize].as_slice(), row)?;
+        self.mention_selectors(Link::Implies, links.implies[sym as usize].as_slice(), row)
     }
 
     /// Adds what a choice default picks, where that is no member of the choice.

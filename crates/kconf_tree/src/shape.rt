@@ -41,10 +41,10 @@ pub struct Choice {
 }
 
 /// A select or an imply as its target sees it.
-#[derive(Drop)]
+#[derive(Clone, Copy, Debug)]
 pub struct Selector {
     /// The number of the symbol that selects or implies.
     pub by: u32,
-    /// The full condition of it.
-    pub cond: Expr,
+    /// Its place among the selects, or the implies, of that symbol, from 0.
+    pub nth: usize,
 }

@@ -37,11 +37,12 @@ fn undeclared_names_of_three_valued_expressions(rt: HostRuntime) -> Result<(), A
 #[test]
 fn who_selects(rt: HostRuntime) -> Result<(), AllocError> {
     let rows = [
-        "BC Ap BsA CsAB",
-        "BBC Ap BsA CsA BsA",
+        "B0C0 Ap BsA CsAB",
+        "B0B1C0 Ap BsA CsA BsA",
+        "B1C0 Ap BsZ CsA BsA",
         " Ap BiA",
-        "C Ap BsZ CsA",
-        "B Ap BsA CsB",
+        "C0 Ap BsZ CsA",
+        "B0 Ap BsA CsB",
     ];
     let wrong = wrong(rt.alloc(), Ask::Selectors, &rows)?;
     assert!(rt; wrong.is_empty(), "{wrong}");

@@ -12,7 +12,7 @@ pub enum Ask {
     Order,
     /// The undeclared names.
     Undeclared,
-    /// Who selects the first symbol.
+    /// Who selects the first symbol, each with the place of that select among its own.
     Selectors,
     /// The numbers of the comparison `B < C` as an outer condition: by its text, and by its sides.
     Less,
@@ -45,11 +45,12 @@ fn joined(alloc: Global, names: &[Text]) -> Result<String, AllocError> {
     Ok(text)
 }
 
-/// The letters of who selects.
+/// Who selects, each with the place of the select among its own.
 fn selecting(alloc: Global, selectors: &[Selector]) -> Result<String, AllocError> {
     let mut text = String::new(alloc);
     for selector in selectors {
         text.push(letter(Node::Sym(selector.by)))?;
+        text.push(digit(Some(selector.nth as u64)))?;
     }
     Ok(text)
 }

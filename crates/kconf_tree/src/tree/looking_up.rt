@@ -1,18 +1,18 @@
-ghost use Rattle.std.specs.Prelude.{◌≡◌, ◌<◌, length, All, IfSome};
+ghost use Rattle.std.specs.Prelude.{◌≡◌, ◌<◌, length, map, All, IfSome};
 ghost use Rattle.kconf_tree.specs.Shape as spec;
 ghost use Rattle.kconf_tree.specs.Value as value;
-ghost use Rattle.kconf_tree.specs.declared.shape.Selector as one;
 
 use crate::shape::{Counts, Selector};
 use crate::tree::Tree;
 use kconf_parse::{Side, Sign};
 
 impl Tree {
-    /// Those that select a symbol, in order of declaration, each with the full condition.
+    /// The selects of a symbol by others, in order of declaration: who selects it, and the place of the select
+    /// among `selects` of that symbol.
     pub fn selectors(&self, sym: u32) -> &[Selector]
         requires { sym < length self.now.shape.symbols }
-        ensures value { result.now ≡ spec.selectors_of self.now.shape sym }
-        ensures within { All (λ (s : one.Selector). s.by < length self.now.shape.symbols) result.now }
+        ensures value { map (spec.selecting_of self.now.shape) result.now ≡ spec.selectors_of self.now.shape sym }
+        ensures within { All (spec.IsSelector self.now.shape) result.now }
     {
         self.links.selects[sym as usize].as_slice()
     }
