@@ -18,23 +18,31 @@ fn defaults(alloc: Global, count: u32) -> Result<Sequence<DefaultOf>, AllocError
     Ok(Sequence::from_vec(list))
 }
 
+/// A config with nothing but its name.
+fn bare(alloc: Global, own: &str) -> Result<ConfigEntry, AllocError> {
+    Ok(ConfigEntry {
+        name: Text::new(alloc, own)?,
+        kind: Kind::Bool,
+        depends: Expr::Const(Trit::Y),
+        prompts: Sequence::new(alloc),
+        defaults: Sequence::new(alloc),
+        selects: Sequence::new(alloc),
+        implies: Sequence::new(alloc),
+        modules: false,
+        choice: None,
+    })
+}
+
 /// A member of the first choice.
 fn member(
     alloc: Global,
     own: &str,
     defaults: Sequence<DefaultOf>,
 ) -> Result<ConfigEntry, AllocError> {
-    Ok(ConfigEntry {
-        name: Text::new(alloc, own)?,
-        kind: Kind::Bool,
-        depends: Expr::Const(Trit::Y),
-        prompts: Sequence::new(alloc),
-        defaults,
-        selects: Sequence::new(alloc),
-        implies: Sequence::new(alloc),
-        modules: false,
-        choice: Some(0),
-    })
+    let mut config = bare(alloc, own)?;
+    config.defaults = defaults;
+    config.choice = Some(0);
+    Ok(config)
 }
 
 /// So many members of the first choice.
@@ -122,17 +130,9 @@ fn link(alloc: Global, number: u32) -> Result<ConfigEntry, AllocError> {
     let next = format!(in alloc; "S{}", number as u64 + 1)?;
     let mut prompts = Vec::new(alloc);
     prompts.push(Expr::Name(Text::new(alloc, &next)?))?;
-    Ok(ConfigEntry {
-        name: Text::new(alloc, &own)?,
-        kind: Kind::Bool,
-        depends: Expr::Const(Trit::Y),
-        prompts: Sequence::from_vec(prompts),
-        defaults: Sequence::new(alloc),
-        selects: Sequence::new(alloc),
-        implies: Sequence::new(alloc),
-        modules: false,
-        choice: None,
-    })
+    let mut config = bare(alloc, &own)?;
+    config.prompts = Sequence::from_vec(prompts);
+    Ok(config)
 }
 
 /// How long the order of so many links is, with its first and last node.
