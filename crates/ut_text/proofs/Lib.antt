@@ -1,0 +1,4 @@
+pub mod NameTexts
+pub mod LinesLemmas
+mod LineSizeLemmas
+pub mod DecimalLaws

@@ -1,0 +1,11 @@
+-- What is counted and what is left.
+use Rattle.std.proofs.Common.{◌≡◌, ◌+◌, drop}
+use Rattle.std.specs.List.{prefix_len}
+use Rattle.ut_text.specs.ByteClasses.{is_digit}
+use Rattle.ut_text.proofs.runs.digits_len.Given as goal
+
+abbrev pub invariant-loop-byte : goal.invariant-loop-byte
+invariant-loop-byte l = record {
+  index : l.count ≡ l.byte-index;
+  left : l.count + prefix_len is_digit (drop l.byte-index l.text) ≡ prefix_len is_digit l.text;
+}

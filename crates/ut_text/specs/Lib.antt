@@ -1,0 +1,9 @@
+pub mod Bytes
+pub mod Text
+pub mod Escapes
+pub mod ByteClasses
+pub mod Lines
+pub mod Decimals
+pub mod FirstWrong
+pub mod Results
+pub mod LineEnds
