@@ -9,7 +9,7 @@ ghost use Rattle.complete_conf.specs.Free as spec;
 use crate::config::Config;
 use crate::limits::{choice_visibility, visibility};
 use crate::values::value_in;
-use kconf_parse::SelectOf;
+use kconf_entries::SelectOf;
 use kconf_tree::{Place, Tree};
 use ut_logic::Trit;
 

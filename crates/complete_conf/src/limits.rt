@@ -5,7 +5,7 @@ ghost use Rattle.complete_conf.specs.Config.{configuration_of};
 
 use crate::config::Config;
 use crate::values::{greatest_of, value_in};
-use kconf_parse::DefaultOf;
+use kconf_entries::DefaultOf;
 use kconf_tree::{Place, Tree};
 use ut_logic::{Trit, trit_and};
 

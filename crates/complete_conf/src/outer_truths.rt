@@ -5,7 +5,7 @@ ghost use Rattle.complete_conf.specs.Config.{configuration_of};
 ghost use Rattle.complete_conf.specs.Inner.{truth_of};
 
 use crate::config::Config;
-use kconf_parse::{Side, Sign};
+use kconf_entries::{Side, Sign};
 use kconf_tree::Tree;
 use ut_logic::Trit;
 

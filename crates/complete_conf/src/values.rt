@@ -1,12 +1,12 @@
 ghost use Rattle.std.specs.Prelude.{◌≡◌, ◌<◌, length, map};
 ghost use Rattle.ut_logic.specs.Trit.{rank};
 ghost use Rattle.kconf_tree.specs.Value as spec;
-ghost use Rattle.kconf_parse.specs.declared.expr.Expr.TheOpen.{Expr-F as step};
+ghost use Rattle.kconf_entries.specs.declared.expr.Expr.TheOpen.{Expr-F as step};
 ghost use Rattle.complete_conf.specs.Config.{configuration_of};
 
 use crate::config::Config;
 use crate::outer_truths::{comparison_value, outer_value};
-use kconf_parse::{Expr, Side, Sign};
+use kconf_entries::{Expr, Side, Sign};
 use kconf_tree::{Counts, Place, Tree};
 use ut_logic::{Text, Trit, trit_and, trit_not, trit_or};
 

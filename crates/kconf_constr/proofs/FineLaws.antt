@@ -16,14 +16,14 @@ use Rattle.ut_logic.specs.Assign.{is_in}
 use Rattle.ut_logic.specs.Fold.{all_of, any_of, not_of}
 use Rattle.ut_logic.specs.Truth.{mentioned, together}
 use Rattle.ut_logic.proofs.MentionLaws.{mentioned-Yes, mentioned-No, mentioned-Is, mentioned-all_of, mentioned-any_of, mentioned-not_of}
-use Rattle.kconf_parse.specs.declared.expr.Side.{Side}
-use Rattle.kconf_parse.specs.declared.expr.Side.TheVariants as side
-use Rattle.kconf_parse.specs.declared.expr.Sign.{Sign}
-use Rattle.kconf_parse.specs.declared.expr.Sign.TheVariants as sign
-use Rattle.kconf_parse.specs.declared.expr.Expr.{Expr}
-use Rattle.kconf_parse.specs.declared.expr.Expr.TheOpen.{Expr-F}
-use Rattle.kconf_parse.specs.declared.expr.Expr.TheViews.{roll-Expr}
-use Rattle.kconf_parse.specs.declared.expr.Expr.TheFolds.{fold-roll-Expr, map-Expr, ind-Expr}
+use Rattle.kconf_entries.specs.declared.expr.Side.{Side}
+use Rattle.kconf_entries.specs.declared.expr.Side.TheVariants as side
+use Rattle.kconf_entries.specs.declared.expr.Sign.{Sign}
+use Rattle.kconf_entries.specs.declared.expr.Sign.TheVariants as sign
+use Rattle.kconf_entries.specs.declared.expr.Expr.{Expr}
+use Rattle.kconf_entries.specs.declared.expr.Expr.TheOpen.{Expr-F}
+use Rattle.kconf_entries.specs.declared.expr.Expr.TheViews.{roll-Expr}
+use Rattle.kconf_entries.specs.declared.expr.Expr.TheFolds.{fold-roll-Expr, map-Expr, ind-Expr}
 use Rattle.kconf_tree.specs.declared.shape.Counts.{Counts}
 use Rattle.kconf_tree.specs.declared.shape.Counts.TheVariants as counts
 use Rattle.kconf_tree.specs.declared.place.Place.{Place}

@@ -5,8 +5,8 @@ use Rattle.ut_logic.specs.declared.item.Item.TheVariants as item
 use Rattle.ut_logic.specs.declared.formula.Formula.{Formula}
 use Rattle.ut_logic.specs.declared.formula.Formula.TheVariants.{Is}
 use Rattle.ut_logic.specs.Fold.{any_of, not_of}
-use Rattle.kconf_parse.specs.declared.expr.Expr.{Expr}
-use Rattle.kconf_parse.specs.declared.entries.DefaultOf.{DefaultOf}
+use Rattle.kconf_entries.specs.declared.expr.Expr.{Expr}
+use Rattle.kconf_entries.specs.declared.entries.DefaultOf.{DefaultOf}
 use Rattle.kconf_tree.specs.declared.shape.Counts.{Counts}
 use Rattle.kconf_tree.specs.declared.shape.Counts.TheVariants as counts
 use Rattle.kconf_tree.specs.Shape.{Selecting}

@@ -9,7 +9,7 @@ use Rattle.ut_logic.specs.Facts.{Meets, MeetsAll, IsDefined}
 use Rattle.ut_logic.specs.Truth.{truths, all_true}
 use Rattle.kconf_tree.specs.declared.shape.Counts.{Counts}
 use Rattle.kconf_tree.specs.declared.shape.Counts.TheVariants as counts
-use Rattle.kconf_parse.specs.declared.entries.Kind.TheVariants as kind
+use Rattle.kconf_entries.specs.declared.entries.Kind.TheVariants as kind
 use Rattle.kconf_tree.specs.Shape.{Shape, symbol_at, choice_at, counts_as, counts_alone, counts_in, counts_with, is_member, is_the}
 use Rattle.kconf_tree.specs.Made.{IsWellMade, is_among}
 use Rattle.kconf_tree.specs.Value.{Configuration}

@@ -11,14 +11,14 @@ use Rattle.ut_logic.specs.declared.formula.Formula.TheVariants.{Yes, No, Is}
 use Rattle.ut_logic.specs.Fold.{all_of, not_of}
 use Rattle.ut_logic.specs.Truth.{truth, truths, all_true, any_true}
 use Rattle.ut_logic.proofs.FoldLaws.{truth-Yes, truth-No, truth-Is, truth-all_of, truth-any_of, truth-not_of}
-use Rattle.kconf_parse.specs.declared.expr.Side.{Side}
-use Rattle.kconf_parse.specs.declared.expr.Side.TheVariants as side
-use Rattle.kconf_parse.specs.declared.expr.Sign.{Sign}
-use Rattle.kconf_parse.specs.declared.expr.Sign.TheVariants as sign
-use Rattle.kconf_parse.specs.declared.expr.Expr.{Expr}
-use Rattle.kconf_parse.specs.declared.expr.Expr.TheOpen.{Expr-F}
-use Rattle.kconf_parse.specs.declared.expr.Expr.TheViews.{roll-Expr}
-use Rattle.kconf_parse.specs.declared.expr.Expr.TheFolds.{fold-roll-Expr, map-Expr, ind-Expr}
+use Rattle.kconf_entries.specs.declared.expr.Side.{Side}
+use Rattle.kconf_entries.specs.declared.expr.Side.TheVariants as side
+use Rattle.kconf_entries.specs.declared.expr.Sign.{Sign}
+use Rattle.kconf_entries.specs.declared.expr.Sign.TheVariants as sign
+use Rattle.kconf_entries.specs.declared.expr.Expr.{Expr}
+use Rattle.kconf_entries.specs.declared.expr.Expr.TheOpen.{Expr-F}
+use Rattle.kconf_entries.specs.declared.expr.Expr.TheViews.{roll-Expr}
+use Rattle.kconf_entries.specs.declared.expr.Expr.TheFolds.{fold-roll-Expr, map-Expr, ind-Expr}
 use Rattle.kconf_tree.specs.declared.shape.Counts.{Counts}
 use Rattle.kconf_tree.specs.declared.shape.Counts.TheVariants as counts
 use Rattle.kconf_tree.specs.Shape.{number_of, outer_at, counts_as}

@@ -7,13 +7,13 @@ use Rattle.ut_logic.specs.declared.item.Item.TheVariants.{SymY, SymM, Undeclared
 use Rattle.ut_logic.specs.declared.formula.Formula.{Formula}
 use Rattle.ut_logic.specs.declared.formula.Formula.TheVariants.{Yes, No, Is}
 use Rattle.ut_logic.specs.Fold.{all_of, any_of, not_of}
-use Rattle.kconf_parse.specs.declared.expr.Side.{Side}
-use Rattle.kconf_parse.specs.declared.expr.Side.TheVariants as side
-use Rattle.kconf_parse.specs.declared.expr.Sign.{Sign}
-use Rattle.kconf_parse.specs.declared.expr.Sign.TheVariants as sign
-use Rattle.kconf_parse.specs.declared.expr.Expr.{Expr}
-use Rattle.kconf_parse.specs.declared.expr.Expr.TheOpen.{Expr-F}
-use Rattle.kconf_parse.specs.declared.expr.Expr.TheFolds.{fold-Expr}
+use Rattle.kconf_entries.specs.declared.expr.Side.{Side}
+use Rattle.kconf_entries.specs.declared.expr.Side.TheVariants as side
+use Rattle.kconf_entries.specs.declared.expr.Sign.{Sign}
+use Rattle.kconf_entries.specs.declared.expr.Sign.TheVariants as sign
+use Rattle.kconf_entries.specs.declared.expr.Expr.{Expr}
+use Rattle.kconf_entries.specs.declared.expr.Expr.TheOpen.{Expr-F}
+use Rattle.kconf_entries.specs.declared.expr.Expr.TheFolds.{fold-Expr}
 use Rattle.kconf_tree.specs.declared.shape.Counts.{Counts}
 use Rattle.kconf_tree.specs.declared.shape.Counts.TheVariants as counts
 use Rattle.kconf_tree.specs.Shape.{counts_as, number_of, outer_at}

@@ -8,8 +8,8 @@ use Rattle.ut_logic.specs.declared.facts.Fact.{Fact}
 use Rattle.ut_logic.specs.declared.formula.Formula.{Formula}
 use Rattle.ut_logic.specs.Facts.{Meets, MeetsAll}
 use Rattle.ut_logic.specs.Truth.{truth}
-use Rattle.kconf_parse.specs.declared.expr.Expr.{Expr}
-use Rattle.kconf_parse.specs.declared.entries.Kind.TheVariants as kind
+use Rattle.kconf_entries.specs.declared.expr.Expr.{Expr}
+use Rattle.kconf_entries.specs.declared.entries.Kind.TheVariants as kind
 use Rattle.kconf_tree.specs.Shape.{Shape, symbol_at, choice_at, is_member}
 use Rattle.kconf_tree.specs.Value.{value_of}
 use Rattle.kconf_tree.specs.Valid.{is_right_choice, KeepsRules, IsValid}

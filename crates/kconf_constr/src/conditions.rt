@@ -8,7 +8,7 @@ ghost use Rattle.kconf_constr.specs.Meaning.{SaysNotN, SaysY};
 
 use crate::half::Half;
 use crate::scope::Scope;
-use kconf_parse::Expr;
+use kconf_entries::Expr;
 use kconf_tree::{Place, Tree};
 use std::alloc::{AllocError, Global};
 use ut_logic::{Formula, Text};

@@ -6,7 +6,7 @@ ghost use Rattle.kconf_constr.specs.Halves as spec;
 
 use crate::half::Half;
 use crate::scope::Scope;
-use kconf_parse::{Expr, Side, Sign};
+use kconf_entries::{Expr, Side, Sign};
 use kconf_tree::{Counts, Place};
 use std::alloc::{AllocError, Global};
 use ut_logic::{Formula, Item, Text, Trit, all_of, any_of, not_of};

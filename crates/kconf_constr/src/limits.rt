@@ -7,7 +7,7 @@ ghost use Rattle.kconf_constr.specs.Limits as spec;
 
 use crate::half::Half;
 use crate::scope::Scope;
-use kconf_parse::{DefaultOf, Expr};
+use kconf_entries::{DefaultOf, Expr};
 use kconf_tree::{Place, Selector};
 use std::alloc::{AllocError, Global};
 use ut_logic::{Formula, all_of, any_of, not_of};

@@ -14,7 +14,7 @@ pub struct Scope<'a> {
 
 impl<'a> Model for Scope<'a> {
     ghost use Rattle.kconf_constr.specs.Scope.{Scope, IsRising};
-    ghost use Rattle.kconf_parse.specs.contracts.expr.Expr as e;
+    ghost use Rattle.kconf_entries.specs.contracts.expr.Expr as e;
     ghost use Rattle.std.specs.Coded.{codes};
 
     ghost Value = { Scope };

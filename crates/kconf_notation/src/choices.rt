@@ -1,5 +1,5 @@
 use crate::expressions::{all, only, select};
-use kconf_parse::{ChoiceEntry, Expr, Kind, SelectOf};
+use kconf_entries::{ChoiceEntry, Expr, Kind, SelectOf};
 use std::alloc::{AllocError, Global};
 use ut_logic::{Sequence, Trit};
 

@@ -2,7 +2,7 @@ ghost use Rattle.std.specs.Prelude.{◌≤◌, length};
 ghost use Rattle.std.specs.Bool.{OnTrue};
 
 use crate::expressions::{all, compared, one, only, select, unless};
-use kconf_parse::{ConfigEntry, DefaultOf, Expr, Kind, Sign};
+use kconf_entries::{ConfigEntry, DefaultOf, Expr, Kind, Sign};
 use std::alloc::{AllocError, Global};
 use ut_logic::{Sequence, Text, Trit};
 

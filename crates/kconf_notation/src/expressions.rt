@@ -1,4 +1,4 @@
-use kconf_parse::{Expr, SelectOf, Side, Sign};
+use kconf_entries::{Expr, SelectOf, Side, Sign};
 use sqlite_items::{Boxed, Items};
 use std::alloc::{AllocError, Global};
 use ut_logic::{Sequence, Text, Trit};

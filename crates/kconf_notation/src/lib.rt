@@ -29,7 +29,7 @@ mod expressions;
 use crate::choices::choices;
 use crate::configs::configs;
 pub use expressions::side;
-use kconf_parse::Entries;
+use kconf_entries::Entries;
 use kconf_tree::{Tree, TreeBad, have_choices};
 use std::alloc::Global;
 use ut_logic::Sequence;

@@ -1,8 +1,8 @@
 -- Laws of entries: joined conditions of several lists, and the last opener.
 use Rattle.std.proofs.Common.{◌≡◌, ◌<◌, ◌-◌, ℕ, Bool, true, false, Option, None, Some, List, [], ◌∷◌, ◌++◌, length, take, append_assoc, refl, ap, sym, ◌∙◌}
-use Rattle.kconf_parse.specs.declared.expr.Expr.{Expr}
+use Rattle.kconf_entries.specs.declared.expr.Expr.{Expr}
 use Rattle.kconf_parse.specs.declared.entry_lines.Opener.{Opener}
-use Rattle.kconf_parse.specs.Joined.{members_of, members_of_all}
+use Rattle.kconf_entries.specs.Joined.{members_of, members_of_all}
 use Rattle.kconf_parse.specs.Entries.{inherited, on_last}
 
 -- the members of two lists of conditions

@@ -1,10 +1,10 @@
 -- What is read of a list, member by member.
 use Rattle.std.proofs.Common.{◌≡◌, ◌<◌, ◌≤◌, ℕ, suc, ◌+◌, ◌-◌, ◌∷◌, ◌++◌, List, [], drop, Bool, true, false, cond, append_assoc, refl, ap, sym, ◌∙◌, arith, rules, max}
 use Rattle.std.specs.Prelude.{Option, None, Some}
-use Rattle.kconf_parse.specs.declared.expr.Expr.{Expr, out-Expr}
-use Rattle.kconf_parse.specs.declared.expr.Expr.TheOpen.{Expr-F}
-use Rattle.kconf_parse.specs.declared.expr.Expr.TheViews.{the_lemmas}
-use Rattle.kconf_parse.specs.declared.expr.Expr.TheVariants as expr
+use Rattle.kconf_entries.specs.declared.expr.Expr.{Expr, out-Expr}
+use Rattle.kconf_entries.specs.declared.expr.Expr.TheOpen.{Expr-F}
+use Rattle.kconf_entries.specs.declared.expr.Expr.TheViews.{the_lemmas}
+use Rattle.kconf_entries.specs.declared.expr.Expr.TheVariants as expr
 use Rattle.kconf_parse.specs.declared.line_words.LineWord.{LineWord}
 use Rattle.kconf_parse.specs.declared.expression_lists.Joint.{Joint}
 use Rattle.kconf_parse.specs.declared.expression_lists.Joint.TheVariants as joint

@@ -2,8 +2,8 @@
 use Rattle.std.proofs.Common.{◌≡◌, ℕ, suc, ◌+◌, ◌-◌, ◌≤◌, ◌<◌, ◌⊎◌, inl, inr, ◌∷◌, ◌++◌, List, [], Bool, true, false, length, take, codes, refl, ap, sym, ◌∙◌, arith}
 use Rattle.std.specs.Prelude.{Option, None, Some, Result, Ok, Err}
 use Rattle.std.specs.List.{list_all}
-use Rattle.kconf_parse.specs.declared.entries.ConfigEntry.{ConfigEntry}
-use Rattle.kconf_parse.specs.declared.entries.Entries.{Entries}
+use Rattle.kconf_entries.specs.declared.entries.ConfigEntry.{ConfigEntry}
+use Rattle.kconf_entries.specs.declared.entries.Entries.{Entries}
 use Rattle.kconf_parse.specs.declared.first_form.Place.{Place}
 use Rattle.kconf_parse.specs.declared.first_form.Place.TheVariants.{Start, Heading, Entry}
 use Rattle.kconf_parse.specs.declared.first_lines.FirstLine.{FirstLine}

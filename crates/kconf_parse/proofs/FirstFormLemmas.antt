@@ -1,7 +1,7 @@
 -- Laws of the first form: one more line is read.
 use Rattle.std.proofs.Common.{◌≡◌, ℕ, ◌+◌, ◌∷◌, ◌++◌, List, append_assoc, refl, ap, sym, ◌∙◌}
 use Rattle.std.specs.Prelude.{None, Some, Result, Ok, Err}
-use Rattle.kconf_parse.specs.declared.entries.ConfigEntry.{ConfigEntry}
+use Rattle.kconf_entries.specs.declared.entries.ConfigEntry.{ConfigEntry}
 use Rattle.kconf_parse.specs.FirstForm.{Reading, first_line, step, read_lines}
 use Rattle.kconf_parse.specs.FirstReading.{behind}
 

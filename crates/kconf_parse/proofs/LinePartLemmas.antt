@@ -4,7 +4,7 @@ use Rattle.std.proofs.lemmas.Bool.{le-leb, lt-leb, cond-true, cond-false}
 use Rattle.kconf_parse.specs.declared.bad.SyntaxKind.TheVariants as fault
 use Rattle.kconf_parse.specs.declared.line_bad.LineBad.{LineBad}
 use Rattle.kconf_parse.specs.declared.line_bad.LineBad.TheVariants as bad
-use Rattle.kconf_parse.specs.declared.expr.Expr.{Expr}
+use Rattle.kconf_entries.specs.declared.expr.Expr.{Expr}
 use Rattle.kconf_parse.specs.declared.line_words.LineWord.{LineWord}
 use Rattle.kconf_parse.specs.Expressions.{Parsed, expression_at}
 use Rattle.kconf_parse.specs.Statements.{ended, kept, expression, expression_by}

@@ -1,7 +1,7 @@
 -- Laws of the lines that are passed: what a line, a help text and the end of a text lead to.
 use Rattle.std.proofs.Common.{◌≡◌, ◌<◌, ◌≤◌, ◌+◌, ◌-◌, ℕ, suc, zero, Bool, true, false, Option, None, Some, List, [], ◌∷◌, length, drop, Result, Ok, Err, ◌==◌, if◌then◌else◌, add-zero, refl, ap, sym, subst, ◌∙◌, inl, inr, length-drop, arith}
 use Rattle.std.specs.List.{prefix_len}
-use Rattle.kconf_parse.specs.declared.entries.Var.{Var}
+use Rattle.kconf_entries.specs.declared.entries.Var.{Var}
 use Rattle.kconf_parse.specs.declared.bad.KconfBad.{KconfBad}
 use Rattle.kconf_parse.specs.declared.bad.KconfBad.TheVariants as refusal
 use Rattle.kconf_parse.specs.declared.line_bad.LineBad.{LineBad}

@@ -8,8 +8,8 @@ use Rattle.ut_base.specs.declared.limits.Limit.TheVariants as limit
 use Rattle.kconf_parse.specs.declared.bad.SyntaxKind.TheVariants as fault
 use Rattle.kconf_parse.specs.declared.bad.KconfBad.{KconfBad}
 use Rattle.kconf_parse.specs.declared.bad.KconfBad.TheVariants as bad
-use Rattle.kconf_parse.specs.declared.entries.Entries.{Entries}
-use Rattle.kconf_parse.specs.declared.entries.Var.{Var}
+use Rattle.kconf_entries.specs.declared.entries.Entries.{Entries}
+use Rattle.kconf_entries.specs.declared.entries.Var.{Var}
 use Rattle.kconf_parse.specs.declared.line_bad.LineBad.{LineBad}
 use Rattle.kconf_parse.specs.declared.follows.Follows.{Follows}
 use Rattle.kconf_parse.specs.declared.follows.Follows.TheVariants as next

@@ -6,7 +6,7 @@ use Rattle.std.specs.List.{prefix_len, list_all}
 use Rattle.std.proofs.lemmas.Bool.{false≢true, eqb-true}
 use Rattle.std.proofs.lemmas.List.{drop-drop, append-nil, length-take}
 use Rattle.std.proofs.lemmas.Grind.{common_steps}
-use Rattle.kconf_parse.specs.declared.entries.Var.{Var}
+use Rattle.kconf_entries.specs.declared.entries.Var.{Var}
 use Rattle.kconf_parse.specs.declared.line_words.Form.{Form}
 use Rattle.kconf_parse.specs.declared.line_words.LineWord.{LineWord}
 use Rattle.kconf_parse.specs.declared.line_words.WordsBad.{WordsBad}

@@ -1,9 +1,9 @@
 -- What the readers of conditions promise each other: full conditions by the members of a place's conditions.
 use Rattle.std.specs.Prelude.{List, ◌++◌}
-use Rattle.kconf_parse.specs.declared.entries.DefaultOf.{DefaultOf}
-use Rattle.kconf_parse.specs.declared.entries.SelectOf.{SelectOf}
-use Rattle.kconf_parse.specs.declared.expr.Expr.{Expr}
-use Rattle.kconf_parse.specs.Joined.{joined, members_of}
+use Rattle.kconf_entries.specs.declared.entries.DefaultOf.{DefaultOf}
+use Rattle.kconf_entries.specs.declared.entries.SelectOf.{SelectOf}
+use Rattle.kconf_entries.specs.declared.expr.Expr.{Expr}
+use Rattle.kconf_entries.specs.Joined.{joined, members_of}
 
 abbrev pub full_of : List Expr → Expr → Expr
 full_of members own = joined (members_of own ++ members)

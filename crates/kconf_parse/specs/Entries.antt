@@ -11,13 +11,13 @@ use Rattle.ut_logic.specs.Text.{text_eq}
 use Rattle.kconf_parse.specs.declared.bad.SyntaxKind.TheVariants as fault
 use Rattle.kconf_parse.specs.declared.line_bad.LineBad.{LineBad}
 use Rattle.kconf_parse.specs.declared.line_bad.LineBad.TheVariants as bad
-use Rattle.kconf_parse.specs.declared.entries.Kind.{Kind}
-use Rattle.kconf_parse.specs.declared.entries.Kind.TheVariants as kind
-use Rattle.kconf_parse.specs.declared.entries.ConfigEntry.{ConfigEntry}
-use Rattle.kconf_parse.specs.declared.entries.ChoiceEntry.{ChoiceEntry}
-use Rattle.kconf_parse.specs.declared.entries.DefaultOf.{DefaultOf}
-use Rattle.kconf_parse.specs.declared.entries.SelectOf.{SelectOf}
-use Rattle.kconf_parse.specs.declared.expr.Expr.{Expr}
+use Rattle.kconf_entries.specs.declared.entries.Kind.{Kind}
+use Rattle.kconf_entries.specs.declared.entries.Kind.TheVariants as kind
+use Rattle.kconf_entries.specs.declared.entries.ConfigEntry.{ConfigEntry}
+use Rattle.kconf_entries.specs.declared.entries.ChoiceEntry.{ChoiceEntry}
+use Rattle.kconf_entries.specs.declared.entries.DefaultOf.{DefaultOf}
+use Rattle.kconf_entries.specs.declared.entries.SelectOf.{SelectOf}
+use Rattle.kconf_entries.specs.declared.expr.Expr.{Expr}
 use Rattle.kconf_parse.specs.declared.statement.TypeLine.{TypeLine}
 use Rattle.kconf_parse.specs.declared.statement.DefaultTypeLine.{DefaultTypeLine}
 use Rattle.kconf_parse.specs.declared.keywords.OpenerKind.{OpenerKind}
@@ -33,7 +33,7 @@ use Rattle.kconf_parse.specs.declared.entry_lines.EntryLines.TheVariants as entr
 use Rattle.kconf_parse.specs.declared.entry_lines.Opener.{Opener}
 use Rattle.kconf_parse.specs.declared.entry_lines.Known.{Known}
 use Rattle.kconf_parse.specs.declared.entry_lines.OpenChoice.{OpenChoice}
-use Rattle.kconf_parse.specs.Joined.{all_of}
+use Rattle.kconf_entries.specs.Joined.{all_of}
 use Rattle.kconf_parse.specs.Statements.{◌>>=◌}
 
 -- what the lines so far say: the ended entries, the entry that is being read, the openers from the outermost, the

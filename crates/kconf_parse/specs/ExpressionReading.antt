@@ -1,6 +1,6 @@
 -- What the readers of expressions promise each other.
 use Rattle.std.specs.Prelude.{◌≡◌, ℕ, ◌<◌, ◌≤◌, Bool, drop, Option, None, Some, List, if◌then◌else◌}
-use Rattle.kconf_parse.specs.declared.expr.Expr.{Expr}
+use Rattle.kconf_entries.specs.declared.expr.Expr.{Expr}
 use Rattle.kconf_parse.specs.declared.line_words.LineWord.{LineWord}
 use Rattle.kconf_parse.specs.declared.roles.Role.{Role}
 use Rattle.kconf_parse.specs.declared.expression_reader.ExprBad.{ExprBad}

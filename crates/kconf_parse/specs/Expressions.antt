@@ -5,13 +5,13 @@ use Rattle.std.specs.Prelude.{ℕ, suc, zero, ◌+◌, ◌*◌, Bool, true, fals
 use Rattle.ut_logic.specs.declared.trit.Trit.{Trit}
 use Rattle.ut_logic.specs.declared.trit.Trit.TheVariants.{N}
 use Rattle.ut_logic.specs.Escapes.{escaped}
-use Rattle.kconf_parse.specs.declared.expr.Expr.{Expr, out-Expr}
-use Rattle.kconf_parse.specs.declared.expr.Expr.TheOpen.{Expr-F}
-use Rattle.kconf_parse.specs.declared.expr.Expr.TheVariants as expr
-use Rattle.kconf_parse.specs.declared.expr.Side.{Side}
-use Rattle.kconf_parse.specs.declared.expr.Side.TheVariants as side
-use Rattle.kconf_parse.specs.declared.expr.Sign.{Sign}
-use Rattle.kconf_parse.specs.declared.expr.Sign.TheVariants as sign
+use Rattle.kconf_entries.specs.declared.expr.Expr.{Expr, out-Expr}
+use Rattle.kconf_entries.specs.declared.expr.Expr.TheOpen.{Expr-F}
+use Rattle.kconf_entries.specs.declared.expr.Expr.TheVariants as expr
+use Rattle.kconf_entries.specs.declared.expr.Side.{Side}
+use Rattle.kconf_entries.specs.declared.expr.Side.TheVariants as side
+use Rattle.kconf_entries.specs.declared.expr.Sign.{Sign}
+use Rattle.kconf_entries.specs.declared.expr.Sign.TheVariants as sign
 use Rattle.kconf_parse.specs.declared.line_words.Form.{Form}
 use Rattle.kconf_parse.specs.declared.line_words.Form.TheVariants as form
 use Rattle.kconf_parse.specs.declared.line_words.LineWord.{LineWord}

@@ -1,7 +1,7 @@
 -- Which line is named where a Kconfig text is not of the first form: the first with which no text of the form
 -- begins, or the last `config` line where the text ends behind it. This project's rule.
 use Rattle.std.specs.Prelude.{◌≡◌, ℕ, ◌-◌, ◌≤◌, ◌⊎◌, ◌++◌, length, take, Ok, List, [], ◌∷◌}
-use Rattle.kconf_parse.specs.declared.entries.ConfigEntry.{ConfigEntry}
+use Rattle.kconf_entries.specs.declared.entries.ConfigEntry.{ConfigEntry}
 use Rattle.kconf_parse.specs.declared.first_lines.FirstLine.TheVariants.{Config}
 use Rattle.kconf_parse.specs.FirstForm.{start, first_line, read_lines}
 

@@ -7,7 +7,7 @@ use Rattle.ut_base.specs.declared.meter.TakeBad.{TakeBad}
 use Rattle.ut_base.specs.declared.meter.TakeBad.TheVariants as take
 use Rattle.kconf_parse.specs.declared.bad.KconfBad.{KconfBad}
 use Rattle.kconf_parse.specs.declared.bad.KconfBad.TheVariants as bad
-use Rattle.kconf_parse.specs.declared.entries.Entries.{Entries}
+use Rattle.kconf_entries.specs.declared.entries.Entries.{Entries}
 use Rattle.kconf_parse.specs.declared.first_form.FirstBad.{FirstBad}
 use Rattle.kconf_parse.specs.declared.first_form.FirstBad.TheVariants as first
 use Rattle.kconf_parse.specs.FirstForm.{first_tree_of}

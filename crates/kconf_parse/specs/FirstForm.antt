@@ -3,15 +3,15 @@
 use Rattle.std.specs.Prelude.{ℕ, ◌+◌, ◌-◌, Bool, true, false, not, ◌==◌, ◌||◌, ◌&&◌, nat_eq, nat_le, bytes_eq, codes, length, drop, ◌++◌, Option, None, Some, Result, Ok, Err, List, [], ◌∷◌, if◌then◌else◌}
 use Rattle.std.specs.List.{list_any, list_all, prefix_len, starts_with}
 use Rattle.ut_logic.specs.Text.{text_eq}
-use Rattle.kconf_parse.specs.declared.entries.Kind.TheVariants as kind
-use Rattle.kconf_parse.specs.declared.entries.ConfigEntry.{ConfigEntry}
-use Rattle.kconf_parse.specs.declared.entries.Entries.{Entries}
+use Rattle.kconf_entries.specs.declared.entries.Kind.TheVariants as kind
+use Rattle.kconf_entries.specs.declared.entries.ConfigEntry.{ConfigEntry}
+use Rattle.kconf_entries.specs.declared.entries.Entries.{Entries}
 use Rattle.kconf_parse.specs.declared.first_form.Place.{Place}
 use Rattle.kconf_parse.specs.declared.first_form.Place.TheVariants.{Start, Heading, Entry}
 use Rattle.kconf_parse.specs.declared.first_lines.FirstLine.{FirstLine}
 use Rattle.kconf_parse.specs.declared.first_lines.FirstLine.TheVariants.{Config, Prompt, Depends, Other}
 use Rattle.kconf_parse.specs.Lines.{lines_of}
-use Rattle.kconf_parse.specs.Joined.{all_of_names}
+use Rattle.kconf_entries.specs.Joined.{all_of_names}
 
 -- a capital letter
 abbrev pub is_capital : ℕ → Bool

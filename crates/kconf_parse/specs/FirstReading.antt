@@ -1,7 +1,7 @@
 -- What the readers of the first form promise each other.
 use Rattle.std.specs.Prelude.{◌≡◌, ℕ, ◌++◌, Option, None, Some, option_to_list, Result, Ok, Err, List}
-use Rattle.kconf_parse.specs.declared.entries.ConfigEntry.{ConfigEntry}
-use Rattle.kconf_parse.specs.declared.entries.Entries.{Entries}
+use Rattle.kconf_entries.specs.declared.entries.ConfigEntry.{ConfigEntry}
+use Rattle.kconf_entries.specs.declared.entries.Entries.{Entries}
 use Rattle.kconf_parse.specs.declared.first_form.FirstBad.{FirstBad}
 use Rattle.kconf_parse.specs.declared.first_form.FirstBad.TheVariants.{NotYet, Oom}
 use Rattle.kconf_parse.specs.FirstForm.{Reading, ◌>>=◌}

@@ -1,8 +1,8 @@
 -- The first words of statements, and which entry takes which attribute. Rule: Linux kconfig-language, "Menu
 -- entries", "Menu attributes" and "Kconfig syntax".
 use Rattle.std.specs.Prelude.{ℕ, Bool, true, false, ◌&&◌, bytes_eq, codes, Option, None, Some, option_and_then, option_map, List, [], ◌∷◌, if◌then◌else◌}
-use Rattle.kconf_parse.specs.declared.entries.Kind.{Kind}
-use Rattle.kconf_parse.specs.declared.entries.Kind.TheVariants as kind
+use Rattle.kconf_entries.specs.declared.entries.Kind.{Kind}
+use Rattle.kconf_entries.specs.declared.entries.Kind.TheVariants as kind
 use Rattle.kconf_parse.specs.declared.keywords.Keyword.{Keyword}
 use Rattle.kconf_parse.specs.declared.keywords.Keyword.TheVariants as first
 use Rattle.kconf_parse.specs.declared.keywords.OpenerKind.TheVariants as opens

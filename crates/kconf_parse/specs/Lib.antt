@@ -1,7 +1,6 @@
 pub mod Lines
 pub mod LogicalLines
 pub mod HelpTexts
-pub mod Joined
 pub mod FirstForm
 pub mod MacroCalls
 pub mod Words

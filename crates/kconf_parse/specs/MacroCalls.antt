@@ -4,7 +4,7 @@
 use Rattle.std.specs.Prelude.{ℕ, suc, ◌+◌, ◌-◌, Bool, false, ◌==◌, ◌&&◌, Option, None, Some, length, take, drop, List, [], ◌∷◌, if◌then◌else◌}
 use Rattle.std.specs.Option.{option_map}
 use Rattle.ut_logic.specs.Text.{text_eq}
-use Rattle.kconf_parse.specs.declared.entries.Var.{Var}
+use Rattle.kconf_entries.specs.declared.entries.Var.{Var}
 
 -- whether a text begins with `$(`
 abbrev pub begins_call : List ℕ → Bool

@@ -6,7 +6,7 @@ use Rattle.ut_base.specs.declared.meter.TakeBad.{TakeBad}
 use Rattle.ut_base.specs.declared.meter.TakeBad.TheVariants as take
 use Rattle.kconf_parse.specs.declared.bad.KconfBad.{KconfBad}
 use Rattle.kconf_parse.specs.declared.bad.KconfBad.TheVariants as bad
-use Rattle.kconf_parse.specs.declared.entries.Var.{Var}
+use Rattle.kconf_entries.specs.declared.entries.Var.{Var}
 use Rattle.kconf_parse.specs.LogicalLines.{all_lines}
 use Rattle.kconf_parse.specs.Entries.{Progress, at_start}
 use Rattle.kconf_parse.specs.Texts.{Reading, all_read}

@@ -10,12 +10,12 @@ use Rattle.kconf_parse.specs.declared.bad.SyntaxKind.{SyntaxKind}
 use Rattle.kconf_parse.specs.declared.bad.SyntaxKind.TheVariants as fault
 use Rattle.kconf_parse.specs.declared.line_bad.LineBad.{LineBad}
 use Rattle.kconf_parse.specs.declared.line_bad.LineBad.TheVariants as bad
-use Rattle.kconf_parse.specs.declared.entries.Kind.{Kind}
-use Rattle.kconf_parse.specs.declared.entries.Kind.TheVariants as kind
-use Rattle.kconf_parse.specs.declared.entries.DefaultOf.{DefaultOf}
-use Rattle.kconf_parse.specs.declared.entries.SelectOf.{SelectOf}
-use Rattle.kconf_parse.specs.declared.expr.Expr.{Expr}
-use Rattle.kconf_parse.specs.declared.expr.Expr.TheVariants as expr
+use Rattle.kconf_entries.specs.declared.entries.Kind.{Kind}
+use Rattle.kconf_entries.specs.declared.entries.Kind.TheVariants as kind
+use Rattle.kconf_entries.specs.declared.entries.DefaultOf.{DefaultOf}
+use Rattle.kconf_entries.specs.declared.entries.SelectOf.{SelectOf}
+use Rattle.kconf_entries.specs.declared.expr.Expr.{Expr}
+use Rattle.kconf_entries.specs.declared.expr.Expr.TheVariants as expr
 use Rattle.kconf_parse.specs.declared.keywords.Keyword.{Keyword}
 use Rattle.kconf_parse.specs.declared.keywords.Keyword.TheVariants as first
 use Rattle.kconf_parse.specs.declared.keywords.Owner.{Owner}

@@ -3,7 +3,7 @@ use Rattle.std.specs.Prelude.{◌≡◌, ◌<◌, ◌≤◌, ◌-◌, ◌⊎◌,
 use Rattle.ut_base.specs.Outside.{Held}
 use Rattle.kconf_parse.specs.declared.bad.KconfBad.{KconfBad}
 use Rattle.kconf_parse.specs.declared.bad.KconfBad.TheVariants as refusal
-use Rattle.kconf_parse.specs.declared.entries.Var.{Var}
+use Rattle.kconf_entries.specs.declared.entries.Var.{Var}
 use Rattle.kconf_parse.specs.declared.line_bad.LineBad.{LineBad}
 use Rattle.kconf_parse.specs.declared.follows.Follows.{Follows}
 use Rattle.kconf_parse.specs.declared.open_text.TextStop.{TextStop}

@@ -13,8 +13,8 @@ use Rattle.kconf_parse.specs.declared.line_bad.LineBad.TheVariants as bad
 use Rattle.kconf_parse.specs.declared.line_words.WordsBad.{WordsBad}
 use Rattle.kconf_parse.specs.declared.line_words.WordsBad.TheVariants as words
 use Rattle.kconf_parse.specs.declared.line_words.LineWord.{LineWord}
-use Rattle.kconf_parse.specs.declared.entries.Entries.{Entries}
-use Rattle.kconf_parse.specs.declared.entries.Var.{Var}
+use Rattle.kconf_entries.specs.declared.entries.Entries.{Entries}
+use Rattle.kconf_entries.specs.declared.entries.Var.{Var}
 use Rattle.kconf_parse.specs.declared.follows.Follows.{Follows}
 use Rattle.kconf_parse.specs.declared.follows.Follows.TheVariants as next
 use Rattle.kconf_parse.specs.declared.statement.Statement.{Statement}

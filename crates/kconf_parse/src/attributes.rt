@@ -1,11 +1,10 @@
 ghost use Rattle.std.specs.Prelude.{◌≡◌, IfOk, [], ◌∷◌, option_to_list};
 ghost use Rattle.kconf_parse.specs.Entries as spec;
 
-use crate::entries::{DefaultOf, Kind, SelectOf};
 use crate::entry_lines::{ChoiceLines, ConfigLines, EntryLines};
-use crate::expr::Expr;
 use crate::keywords::Owner;
 use crate::statement::Statement;
+use kconf_entries::{DefaultOf, Expr, Kind, SelectOf};
 use sqlite_items::Items;
 use std::alloc::{AllocError, Global};
 use ut_logic::Text;

@@ -1,10 +1,8 @@
 ghost use Rattle.std.specs.Prelude.{◌≡◌, ◌++◌, IfOk, OnOk, map};
-ghost use Rattle.kconf_parse.specs.Joined as spec;
+ghost use Rattle.kconf_entries.specs.Joined as spec;
 ghost use Rattle.kconf_parse.specs.Conditions as inner;
 
-use crate::entries::{DefaultOf, SelectOf};
-use crate::expr::Expr;
-use crate::joined::{joined, push_each, push_members};
+use kconf_entries::{DefaultOf, Expr, SelectOf, joined, push_each, push_members};
 use std::alloc::{AllocError, Global};
 use ut_logic::{Sequence, Text};
 

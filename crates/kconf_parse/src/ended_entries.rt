@@ -1,13 +1,12 @@
 ghost use Rattle.std.specs.Prelude.{◌≡◌, ◌++◌, IfOk, OnOk};
 ghost use Rattle.kconf_parse.specs.Entries as spec;
-ghost use Rattle.kconf_parse.specs.Joined.{members_of_all};
+ghost use Rattle.kconf_entries.specs.Joined.{members_of_all};
 
 use crate::conditions::{
     add_all_members, full_conditions, full_defaults, full_selects, place_condition,
 };
-use crate::entries::{ChoiceEntry, ConfigEntry};
 use crate::entry_lines::{ChoiceLines, ConfigLines, Opener};
-use crate::expr::Expr;
+use kconf_entries::{ChoiceEntry, ConfigEntry, Expr};
 use std::alloc::{AllocError, Global};
 use ut_logic::Sequence;
 

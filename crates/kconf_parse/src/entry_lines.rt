@@ -1,6 +1,5 @@
-use crate::entries::{DefaultOf, Kind, SelectOf};
-use crate::expr::Expr;
 use crate::keywords::OpenerKind;
+use kconf_entries::{DefaultOf, Expr, Kind, SelectOf};
 use sqlite_items::Items;
 use ut_logic::Text;
 

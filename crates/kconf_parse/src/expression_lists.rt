@@ -2,9 +2,9 @@ ghost use Rattle.std.specs.Prelude.{◌≡◌, ◌++◌, IfOk, OnOk};
 ghost use Rattle.kconf_parse.specs.Expressions as spec;
 ghost use Rattle.kconf_parse.specs.ExpressionReading as inner;
 
-use crate::expr::Expr;
 use crate::line_words::LineWord;
 use crate::roles::{Role, role_of};
+use kconf_entries::Expr;
 use sqlite_items::Items;
 use std::alloc::{AllocError, Global};
 

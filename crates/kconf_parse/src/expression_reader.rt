@@ -2,11 +2,11 @@ ghost use Rattle.std.specs.Prelude.{◌≡◌, ◌<◌, ◌≤◌, IfOk, IfErr, 
 ghost use Rattle.kconf_parse.specs.Expressions as spec;
 ghost use Rattle.kconf_parse.specs.ExpressionReading.{IsRead, Refuses, RefusesAlways, list_at, member_at, factor_form, negated_at, closed_at};
 
-use crate::expr::{Expr, Sign};
 use crate::expression_lists::{Joint, begins_joint, join};
 use crate::line_words::LineWord;
 use crate::operands::{compared, operand};
 use crate::roles::{Role, role_of};
+use kconf_entries::{Expr, Sign};
 use sqlite_items::Boxed;
 use std::alloc::{AllocError, AllocFailed, Global};
 

@@ -4,8 +4,8 @@ ghost use Rattle.ut_base.specs.Outside.{HasCause};
 ghost use Rattle.kconf_parse.specs.FirstFile.{TreeFrom, TreeWithin, IsMissing, IsReadFault, IsTooLong, Refuses, Names};
 
 use crate::bad::KconfBad;
-use crate::entries::Entries;
 use crate::first_form::{FirstBad, first_entries};
+use kconf_entries::Entries;
 use std::alloc::Global;
 use ut_base::{Files, Limit, Meter, Name, TakeBad, take};
 

@@ -5,11 +5,10 @@ ghost use Rattle.kconf_parse.specs.FirstReading.{Finishes, Steps, Gives};
 ghost use Rattle.kconf_parse.specs.declared.first_form.FirstBad.TheVariants as bad;
 ghost use Rattle.kconf_parse.specs.declared.first_lines.FirstLine.TheVariants as says;
 
-use crate::entries::{ConfigEntry, Entries, Kind};
 use crate::first_lines::{FirstLine, first_line};
-use crate::joined::all_of_names;
 use crate::lines::split_line;
 use indexmap::IndexSet;
+use kconf_entries::{ConfigEntry, Entries, Kind, all_of_names};
 use sqlite_items::Items;
 use std::alloc::{AllocError, AllocFailed, Global};
 use std::marker::Model;

@@ -2,8 +2,8 @@ ghost use Rattle.std.specs.Prelude.{◌≡◌};
 ghost use Rattle.std.specs.Option.{option_map};
 ghost use Rattle.kconf_parse.specs.Keywords as spec;
 
-use crate::entries::Kind;
 use crate::line_words::{Form, LineWord};
+use kconf_entries::Kind;
 
 /// What an end word ends.
 #[derive(Clone, Copy, Debug, PartialEq, Eq)]

@@ -11,9 +11,7 @@ mod attributes;
 mod bad;
 mod conditions;
 mod ended_entries;
-mod entries;
 mod entry_lines;
-mod expr;
 mod expression_ends;
 mod expression_laws;
 mod expression_lists;
@@ -24,7 +22,6 @@ mod first_laws;
 mod first_lines;
 mod follows;
 mod help_texts;
-mod joined;
 mod keywords;
 mod line_bad;
 mod line_parts;
@@ -46,9 +43,10 @@ mod word_texts;
 mod words;
 
 pub use bad::{KconfBad, SyntaxKind};
-pub use entries::{ChoiceEntry, ConfigEntry, DefaultOf, Entries, Kind, SelectOf, Var};
-pub use expr::{Expr, Side, Sign};
 pub use expression_laws::expressions_follow_the_grammar;
 pub use first_file::first_tree;
 pub use first_laws::first_bad_line_is_named;
+pub use kconf_entries::{
+    ChoiceEntry, ConfigEntry, DefaultOf, Entries, Expr, Kind, SelectOf, Side, Sign, Var,
+};
 pub use tree_file::read_tree;

@@ -5,14 +5,13 @@ ghost use Rattle.kconf_parse.specs.Statements as spec;
 ghost use Rattle.kconf_parse.specs.LineParts as inner;
 
 use crate::bad::SyntaxKind;
-use crate::entries::DefaultOf;
-use crate::expr::Expr;
 use crate::expression_ends::expression_len;
 use crate::expression_reader::{ExprBad, read_expression};
 use crate::keywords::is_word;
 use crate::line_bad::LineBad;
 use crate::line_words::{Form, LineWord};
 use crate::word_kinds::{is_literal, is_name, text_of};
+use kconf_entries::{DefaultOf, Expr};
 use std::alloc::{AllocError, Global};
 use std::str;
 use ut_base::{Limit, Name};

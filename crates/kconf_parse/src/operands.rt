@@ -2,9 +2,9 @@ ghost use Rattle.std.specs.Prelude.{◌≡◌, IfOk, OnOk, ◌++◌};
 ghost use Rattle.kconf_parse.specs.Expressions as spec;
 ghost use Rattle.kconf_parse.specs.OperandParts as parts;
 
-use crate::expr::{Expr, Side, Sign};
 use crate::line_words::{Form, LineWord};
 use crate::word_kinds::{constant_of, is_name, text_of};
+use kconf_entries::{Expr, Side, Sign};
 use std::alloc::{AllocError, Global};
 use ut_logic::{Text, Trit};
 

@@ -11,13 +11,12 @@ use crate::attributes::{
 };
 use crate::bad::SyntaxKind;
 use crate::ended_entries::{choice_entry, config_entry};
-use crate::entries::{ChoiceEntry, ConfigEntry, Entries, Kind};
 use crate::entry_lines::{EntryLines, Known, OpenChoice, Opener};
-use crate::expr::Expr;
 use crate::keywords::{OpenerKind, Owner};
 use crate::line_bad::LineBad;
 use crate::statement::{DefaultTypeLine, Statement, TypeLine};
 use indexmap::{IndexMap, IndexSet};
+use kconf_entries::{ChoiceEntry, ConfigEntry, Entries, Expr, Kind};
 use sqlite_items::Items;
 use std::alloc::{AllocError, Global};
 use std::marker::Model;
@@ -44,7 +43,7 @@ pub struct Progress {
 
 impl Model for Progress {
     ghost use Rattle.std.specs.Coded.{codes};
-    ghost use Rattle.kconf_parse.specs.contracts.expr.Expr as e;
+    ghost use Rattle.kconf_entries.specs.contracts.expr.Expr as e;
     ghost use Rattle.kconf_parse.specs.Entries as model;
 
     ghost Value = { model.Progress };

@@ -1,8 +1,8 @@
 ghost use Rattle.std.specs.Prelude.{◌≡◌};
 ghost use Rattle.kconf_parse.specs.Expressions as spec;
 
-use crate::expr::Sign;
 use crate::line_words::{Form, LineWord};
+use kconf_entries::Sign;
 
 /// What a word is in an expression.
 #[derive(Clone, Copy)]

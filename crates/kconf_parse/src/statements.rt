@@ -3,7 +3,6 @@ ghost use Rattle.kconf_parse.specs.Statements as spec;
 ghost use Rattle.kconf_parse.specs.LineParts as inner;
 
 use crate::bad::SyntaxKind;
-use crate::entries::{Kind, SelectOf};
 use crate::keywords::{Keyword, Owner, begins_with_word, first_words, is_taken, is_word};
 use crate::line_bad::LineBad;
 use crate::line_parts::{
@@ -11,6 +10,7 @@ use crate::line_parts::{
 };
 use crate::line_words::{Form, LineWord};
 use crate::statement::{DefaultTypeLine, Statement, TypeLine};
+use kconf_entries::{Kind, SelectOf};
 use std::alloc::Global;
 use std::marker::Model;
 use ut_base::Name;

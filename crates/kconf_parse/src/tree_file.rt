@@ -6,12 +6,12 @@ ghost use Rattle.kconf_parse.specs.OpenTexts as inner;
 ghost use Rattle.kconf_parse.specs.TreeFile.{TreeFrom, TreeWithin, IsMissing, IsReadFault, IsTooLong};
 
 use crate::bad::KconfBad;
-use crate::entries::{Entries, Var};
 use crate::line_bad::LineBad;
 use crate::open_text::{OpenText, TextStop};
 use crate::open_texts::OpenTexts;
 use crate::progress::Progress;
 use crate::values::Values;
+use kconf_entries::{Entries, Var};
 use std::alloc::Global;
 use ut_base::{Files, Limit, Meter, Name, TakeBad, take};
 

@@ -2,8 +2,8 @@ ghost use Rattle.std.specs.Prelude.{◌≡◌, IfOk};
 ghost use Rattle.std.specs.Option.{option_map};
 ghost use Rattle.kconf_parse.specs.MacroCalls as spec;
 
-use crate::entries::Var;
 use indexmap::IndexMap;
+use kconf_entries::Var;
 use std::alloc::{AllocError, Global};
 use std::marker::Model;
 
@@ -17,7 +17,7 @@ pub struct Values<'a> {
 impl<'a> Model for Values<'a> {
     ghost use Rattle.std.specs.Prelude.{List};
     ghost use Rattle.kconf_parse.specs.ValueMap.{HoldsValues};
-    ghost use Rattle.kconf_parse.specs.declared.entries.Var.{Var};
+    ghost use Rattle.kconf_entries.specs.declared.entries.Var.{Var};
 
     ghost Value = { List Var };
 

@@ -4,9 +4,9 @@ use Rattle.std.specs.List.{AllByRecursion}
 use Rattle.std.specs.Option.{option_or}
 use Rattle.std.proofs.lemmas.List.Elements.{All-from_recursion, recursion_from_All, All-filter, All-map}
 use Rattle.ut_logic.specs.Text.{text_eq}
-use Rattle.kconf_parse.specs.declared.entries.Kind.{Kind}
-use Rattle.kconf_parse.specs.declared.entries.ConfigEntry.{ConfigEntry}
-use Rattle.kconf_parse.specs.declared.entries.ChoiceEntry.{ChoiceEntry}
+use Rattle.kconf_entries.specs.declared.entries.Kind.{Kind}
+use Rattle.kconf_entries.specs.declared.entries.ConfigEntry.{ConfigEntry}
+use Rattle.kconf_entries.specs.declared.entries.ChoiceEntry.{ChoiceEntry}
 use Rattle.kconf_tree.specs.declared.shape.Symbol.{Symbol}
 use Rattle.kconf_tree.specs.declared.shape.Choice.{Choice}
 use Rattle.kconf_tree.specs.Value.{is_text_or_number}

@@ -2,7 +2,7 @@
 use Rattle.std.proofs.Common.{◌≡◌, ℕ, Option, None, length, ap, sym, ◌∙◌}
 use Rattle.std.specs.Option.{option_or}
 use Rattle.ut_base.specs.declared.limits.Limit.TheVariants.{Symbols}
-use Rattle.kconf_parse.specs.declared.entries.Entries.{Entries}
+use Rattle.kconf_entries.specs.declared.entries.Entries.{Entries}
 use Rattle.kconf_tree.specs.declared.limits.Passed.{Passed}
 use Rattle.kconf_tree.specs.declared.bad.TreeBad.{TreeBad}
 use Rattle.kconf_tree.specs.declared.bad.TreeBad.TheVariants.{TooMany, Recursive, Oom}

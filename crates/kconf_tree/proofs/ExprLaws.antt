@@ -1,11 +1,11 @@
 -- What a list of expressions comes to.
 use Rattle.std.proofs.Common.{◌≡◌, ℕ, List, [], ◌∷◌, ◌++◌, map, refl, ap, sym, ◌∙◌, rules}
 use Rattle.std.specs.List.{flat_map}
-use Rattle.kconf_parse.specs.declared.expr.Expr.{Expr, out-Expr}
-use Rattle.kconf_parse.specs.declared.expr.Expr.TheOpen.{Expr-F}
-use Rattle.kconf_parse.specs.declared.expr.Expr.TheVariants.{And, Or}
-use Rattle.kconf_parse.specs.declared.expr.Expr.TheFolds.{fold_out-Expr, map-Expr}
-use Rattle.kconf_parse.specs.declared.expr.Expr.TheViews.{the_lemmas}
+use Rattle.kconf_entries.specs.declared.expr.Expr.{Expr, out-Expr}
+use Rattle.kconf_entries.specs.declared.expr.Expr.TheOpen.{Expr-F}
+use Rattle.kconf_entries.specs.declared.expr.Expr.TheVariants.{And, Or}
+use Rattle.kconf_entries.specs.declared.expr.Expr.TheFolds.{fold_out-Expr, map-Expr}
+use Rattle.kconf_entries.specs.declared.expr.Expr.TheViews.{the_lemmas}
 use Rattle.kconf_tree.specs.Shape.{Shape}
 use Rattle.kconf_tree.specs.Gathered.{outers_step, outers_in}
 use Rattle.kconf_tree.specs.Value.{Place}

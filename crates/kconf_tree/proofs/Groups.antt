@@ -7,7 +7,7 @@ use Rattle.std.specs.Map.{lookup}
 use Rattle.indexmap.specs.IndexMap.{insert_entry}
 use Rattle.indexmap.specs.IndexSet.{insert_key}
 use Rattle.ut_logic.specs.Text.{text_eq, text_equiv, text_eq-exact}
-use Rattle.kconf_parse.specs.declared.entries.ConfigEntry.{ConfigEntry}
+use Rattle.kconf_entries.specs.declared.entries.ConfigEntry.{ConfigEntry}
 use Rattle.kconf_tree.specs.Gathered.{entries_named, once}
 use Rattle.kconf_tree.specs.Types.{names_of}
 use Rattle.kconf_tree.specs.Apart.{AreApart}

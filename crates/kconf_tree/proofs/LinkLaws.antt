@@ -7,7 +7,7 @@ use Rattle.std.proofs.lemmas.List.Quantifiers.{position-Some}
 use Rattle.std.proofs.lemmas.List.Sums.{position_or_len_is}
 use Rattle.std.specs.List.{list_any, position_or_len}
 use Rattle.ut_logic.specs.Text.{text_eq, text_eq-exact, text_equiv}
-use Rattle.kconf_parse.specs.declared.entries.SelectOf.{SelectOf}
+use Rattle.kconf_entries.specs.declared.entries.SelectOf.{SelectOf}
 use Rattle.kconf_tree.specs.declared.shape.Symbol.{Symbol}
 use Rattle.kconf_tree.specs.declared.shape.Selector.{Selector}
 use Rattle.kconf_tree.specs.declared.links.Link.{Link}

@@ -6,7 +6,7 @@ use Rattle.std.proofs.lemmas.List.Elements.{All-nil, All-cons, All-head, All-tai
 use Rattle.ut_logic.specs.declared.node.Node.{Node}
 use Rattle.ut_logic.specs.declared.node.Node.TheVariants.{Sym, Choice, Block, State}
 use Rattle.ut_logic.specs.Node.{node_eq}
-use Rattle.kconf_parse.specs.declared.entries.Entries.{Entries}
+use Rattle.kconf_entries.specs.declared.entries.Entries.{Entries}
 use Rattle.kconf_tree.specs.declared.shape.Choice.{Choice as OneChoice}
 use Rattle.kconf_tree.specs.Shape.{Shape, symbol_at, choice_at, no_choice}
 use Rattle.kconf_tree.specs.Arranged.{Arranged}

@@ -7,8 +7,8 @@ use Rattle.std.proofs.lemmas.List.{map-append, length-map}
 use Rattle.std.specs.List.{list_any, position_or_len, flat_map}
 use Rattle.std.specs.Option.{option_or}
 use Rattle.ut_logic.specs.Text.{text_eq, text_equiv, text_eq-exact}
-use Rattle.kconf_parse.specs.declared.entries.Kind.{Kind}
-use Rattle.kconf_parse.specs.declared.entries.ConfigEntry.{ConfigEntry}
+use Rattle.kconf_entries.specs.declared.entries.Kind.{Kind}
+use Rattle.kconf_entries.specs.declared.entries.ConfigEntry.{ConfigEntry}
 use Rattle.kconf_tree.specs.declared.shape.Symbol.{Symbol}
 use Rattle.kconf_tree.specs.Shape.{number_of, no_symbol}
 use Rattle.kconf_tree.specs.Gathered.{entries_named, first_kind, first_choice, member_choice}

@@ -4,13 +4,13 @@ use Rattle.std.specs.List.{flat_map}
 use Rattle.std.specs.Option.{option_to_list}
 use Rattle.ut_logic.specs.declared.trit.Trit.{Trit}
 use Rattle.ut_logic.specs.declared.trit.Trit.TheVariants.{N, M, Y}
-use Rattle.kconf_parse.specs.declared.expr.Side.{Side}
-use Rattle.kconf_parse.specs.declared.expr.Side.TheVariants as side
-use Rattle.kconf_parse.specs.declared.expr.Sign.{Sign}
-use Rattle.kconf_parse.specs.declared.expr.Expr.{Expr}
-use Rattle.kconf_parse.specs.declared.expr.Expr.TheOpen.{Expr-F}
-use Rattle.kconf_parse.specs.declared.expr.Expr.TheViews.{roll-Expr}
-use Rattle.kconf_parse.specs.declared.expr.Expr.TheFolds.{fold-roll-Expr, map-Expr, ind-Expr}
+use Rattle.kconf_entries.specs.declared.expr.Side.{Side}
+use Rattle.kconf_entries.specs.declared.expr.Side.TheVariants as side
+use Rattle.kconf_entries.specs.declared.expr.Sign.{Sign}
+use Rattle.kconf_entries.specs.declared.expr.Expr.{Expr}
+use Rattle.kconf_entries.specs.declared.expr.Expr.TheOpen.{Expr-F}
+use Rattle.kconf_entries.specs.declared.expr.Expr.TheViews.{roll-Expr}
+use Rattle.kconf_entries.specs.declared.expr.Expr.TheFolds.{fold-roll-Expr, map-Expr, ind-Expr}
 use Rattle.kconf_tree.specs.Shape.{Shape, number_of, outer_at, counts_as}
 use Rattle.kconf_tree.specs.declared.place.Place.{Place}
 use Rattle.kconf_tree.specs.declared.place.Place.TheVariants.{Condition, Value}

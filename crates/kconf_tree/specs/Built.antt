@@ -2,8 +2,8 @@
 -- Rule: this project's own.
 use Rattle.std.specs.Prelude.{◌≡◌, ◌^◌, ◌<◌, length, All, None, Some}
 use Rattle.std.specs.Option.{IfSome}
-use Rattle.kconf_parse.specs.declared.entries.ConfigEntry.{ConfigEntry}
-use Rattle.kconf_parse.specs.declared.entries.Entries.{Entries}
+use Rattle.kconf_entries.specs.declared.entries.ConfigEntry.{ConfigEntry}
+use Rattle.kconf_entries.specs.declared.entries.Entries.{Entries}
 use Rattle.kconf_tree.specs.declared.bad.TreeBad.{TreeBad}
 use Rattle.kconf_tree.specs.declared.bad.TreeBad.TheVariants.{TooMany, Recursive, Oom}
 use Rattle.kconf_tree.specs.Gathered.{gathered}

@@ -1,10 +1,10 @@
 -- How choices get their types and members, one entry or symbol after another. No public contract cites
 -- this module.
 use Rattle.std.specs.Prelude.{ℕ, Bool, false, not, ◌&&◌, List, [], ◌∷◌, ◌++◌, Option, None, Some, if◌then◌else◌, slice_index_or, slice_set, suc}
-use Rattle.kconf_parse.specs.declared.entries.Kind.{Kind}
-use Rattle.kconf_parse.specs.declared.entries.Kind.TheVariants as kind
-use Rattle.kconf_parse.specs.declared.entries.ConfigEntry.{ConfigEntry}
-use Rattle.kconf_parse.specs.declared.entries.ChoiceEntry.{ChoiceEntry}
+use Rattle.kconf_entries.specs.declared.entries.Kind.{Kind}
+use Rattle.kconf_entries.specs.declared.entries.Kind.TheVariants as kind
+use Rattle.kconf_entries.specs.declared.entries.ConfigEntry.{ConfigEntry}
+use Rattle.kconf_entries.specs.declared.entries.ChoiceEntry.{ChoiceEntry}
 use Rattle.kconf_tree.specs.declared.shape.Symbol.{Symbol}
 use Rattle.kconf_tree.specs.declared.shape.Choice.{Choice}
 use Rattle.kconf_tree.specs.declared.types.Declared.{Declared}

@@ -1,8 +1,8 @@
 -- How symbols and choices are gathered, one entry after another. No public contract cites this module.
 use Rattle.std.specs.Prelude.{ℕ, List, [], ◌∷◌, ◌++◌, Option, None, Some, slice_index_or, slice_set, map}
 use Rattle.std.specs.Option.{option_or}
-use Rattle.kconf_parse.specs.declared.entries.Kind.{Kind}
-use Rattle.kconf_parse.specs.declared.entries.ConfigEntry.{ConfigEntry}
+use Rattle.kconf_entries.specs.declared.entries.Kind.{Kind}
+use Rattle.kconf_entries.specs.declared.entries.ConfigEntry.{ConfigEntry}
 use Rattle.kconf_tree.specs.declared.shape.Symbol.{Symbol}
 use Rattle.kconf_tree.specs.Shape.{no_symbol}
 use Rattle.kconf_tree.specs.Gathered.{entries_named, first_kind, first_choice, member_choice, symbol_of}

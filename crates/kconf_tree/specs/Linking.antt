@@ -1,7 +1,7 @@
 -- How the selects and implies are led to their targets, one after another. No public contract cites this
 -- module.
 use Rattle.std.specs.Prelude.{◌<◌, ℕ, List, [], ◌∷◌, ◌++◌, Option, None, Some, length, slice_index_or, slice_set, suc}
-use Rattle.kconf_parse.specs.declared.entries.SelectOf.{SelectOf}
+use Rattle.kconf_entries.specs.declared.entries.SelectOf.{SelectOf}
 use Rattle.kconf_tree.specs.declared.shape.Symbol.{Symbol}
 use Rattle.kconf_tree.specs.declared.shape.Selector.{Selector}
 use Rattle.kconf_tree.specs.declared.links.Link.{Link}

@@ -4,7 +4,7 @@
 -- the document's rule for selects and this project's for prompts.
 use Rattle.std.specs.Prelude.{ℕ, ◌==◌, Bool, not, ◌&&◌, ◌||◌, List, [], ◌∷◌, if◌then◌else◌, min, map}
 use Rattle.std.specs.List.{list_any}
-use Rattle.kconf_parse.specs.declared.entries.DefaultOf.{DefaultOf}
+use Rattle.kconf_entries.specs.declared.entries.DefaultOf.{DefaultOf}
 use Rattle.kconf_tree.specs.Shape.{Selecting}
 use Rattle.kconf_tree.specs.Shape.{Shape, symbol_at, choice_at, selectors_of}
 use Rattle.kconf_tree.specs.Value.{Configuration, Value, value_in, value_of, own_value, greatest, is_text_or_number}

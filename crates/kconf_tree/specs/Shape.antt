@@ -4,11 +4,11 @@
 use Rattle.std.specs.Prelude.{ℕ, ◌==◌, ◌<◌, Bool, false, List, [], ◌∷◌, ◌++◌, Option, None, Some, if◌then◌else◌, position, get_or, length, suc, is_some}
 use Rattle.ut_logic.specs.Text.{text_eq}
 use Rattle.ut_logic.specs.declared.trit.Trit.TheVariants.{N}
-use Rattle.kconf_parse.specs.declared.entries.SelectOf.{SelectOf}
-use Rattle.kconf_parse.specs.declared.entries.Kind.{Kind}
-use Rattle.kconf_parse.specs.declared.entries.Kind.TheVariants as kind
-use Rattle.kconf_parse.specs.declared.expr.Expr.{Expr}
-use Rattle.kconf_parse.specs.declared.expr.Expr.TheVariants.{Const}
+use Rattle.kconf_entries.specs.declared.entries.SelectOf.{SelectOf}
+use Rattle.kconf_entries.specs.declared.entries.Kind.{Kind}
+use Rattle.kconf_entries.specs.declared.entries.Kind.TheVariants as kind
+use Rattle.kconf_entries.specs.declared.expr.Expr.{Expr}
+use Rattle.kconf_entries.specs.declared.expr.Expr.TheVariants.{Const}
 use Rattle.kconf_tree.specs.declared.shape.Symbol.{Symbol}
 use Rattle.kconf_tree.specs.declared.shape.Choice.{Choice}
 use Rattle.kconf_tree.specs.declared.shape.Selector.{Selector}

@@ -8,7 +8,7 @@ ghost use Rattle.kconf_tree.specs.Feeding.{byte_writes, spelled_eq, spelled_text
 use crate::outer_text::{OuterText, feed};
 use crate::outers::{sign_text, trit_text};
 use indexmap::Equivalent;
-use kconf_parse::{Side, Sign};
+use kconf_entries::{Side, Sign};
 use std::hash::{Hash, Hasher};
 
 /// A side of a comparison: a word, and what stands before and behind it.

@@ -2,11 +2,11 @@ ghost use Rattle.std.specs.Prelude.{◌≡◌, ◌<◌, ◌^◌, length, map, If
 ghost use Rattle.kconf_tree.specs.Gathered as spec;
 ghost use Rattle.kconf_tree.specs.Types.{types_of};
 ghost use Rattle.kconf_tree.specs.Choosing as choosing;
-ghost use Rattle.kconf_parse.specs.declared.entries.ChoiceEntry as declared;
+ghost use Rattle.kconf_entries.specs.declared.entries.ChoiceEntry as declared;
 
 use crate::shape::{Choice, Symbol};
 use crate::types::{Types, is_text_or_number, is_untyped};
-use kconf_parse::{ChoiceEntry, ConfigEntry, Kind};
+use kconf_entries::{ChoiceEntry, ConfigEntry, Kind};
 use sqlite_items::Items;
 use std::alloc::{AllocError, Global};
 

@@ -6,7 +6,7 @@ ghost use Rattle.kconf_tree.specs.Gathering.{with_entry, with_entry_at};
 
 use crate::shape::Symbol;
 use crate::types::{Types, is_text_or_number};
-use kconf_parse::{ConfigEntry, Kind};
+use kconf_entries::{ConfigEntry, Kind};
 use sqlite_items::Items;
 use std::alloc::{AllocError, Global};
 

@@ -2,7 +2,7 @@ ghost use Rattle.std.specs.Prelude.{◌↔◌, ◌<◌, IsTrue};
 ghost use Rattle.std.specs.Option.{IfSome};
 ghost use Rattle.kconf_tree.specs.Built.{HaveChoices};
 
-use kconf_parse::{ConfigEntry, Entries};
+use kconf_entries::{ConfigEntry, Entries};
 
 /// Whether the choice that a config stands in, if it stands in one, is among so many.
 fn has_choice(config: &ConfigEntry, count: usize) -> bool

@@ -8,7 +8,7 @@ ghost use Rattle.kconf_tree.specs.Links.{AreLinkers, AreLinks};
 
 use crate::parts::Parts;
 use crate::shape::Selector;
-use kconf_parse::{Expr, SelectOf};
+use kconf_entries::{Expr, SelectOf};
 use sqlite_items::Items;
 use std::alloc::{AllocError, Global};
 use ut_logic::Text;

@@ -4,7 +4,7 @@ ghost use Rattle.kconf_tree.specs.Modules.{modules_from};
 
 use crate::shape::Symbol;
 use crate::types::Types;
-use kconf_parse::Kind;
+use kconf_entries::Kind;
 
 /// Whether the symbol is bool or tristate, an untyped member of a choice included.
 fn is_bool_or_tristate(symbol: &Symbol) -> bool

@@ -10,7 +10,7 @@ use crate::parts::Parts;
 use crate::place::Place;
 use crate::references::push;
 use crate::shape::{Counts, Selector};
-use kconf_parse::{Kind, SelectOf};
+use kconf_entries::{Kind, SelectOf};
 use sqlite_items::Items;
 use std::alloc::AllocError;
 use ut_logic::Text;

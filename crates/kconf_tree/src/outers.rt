@@ -4,13 +4,13 @@ ghost use Rattle.std.specs.String.{string_bytes};
 ghost use Rattle.kconf_tree.specs.Value as value;
 ghost use Rattle.kconf_tree.specs.Gathered as spec;
 ghost use Rattle.kconf_tree.specs.Types.{typed, outers_of_default, outers_with};
-ghost use Rattle.kconf_parse.specs.declared.entries.SelectOf as declared;
-ghost use Rattle.kconf_parse.specs.declared.expr.Expr.TheOpen.{Expr-F as step};
+ghost use Rattle.kconf_entries.specs.declared.entries.SelectOf as declared;
+ghost use Rattle.kconf_entries.specs.declared.expr.Expr.TheOpen.{Expr-F as step};
 
 use crate::outer_text::OuterText;
 use crate::types::Types;
 use indexmap::IndexSet;
-use kconf_parse::{ChoiceEntry, ConfigEntry, DefaultOf, Expr, SelectOf, Side, Sign};
+use kconf_entries::{ChoiceEntry, ConfigEntry, DefaultOf, Expr, SelectOf, Side, Sign};
 use std::alloc::{AllocError, Global};
 use ut_logic::{Text, Trit};
 

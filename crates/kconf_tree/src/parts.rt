@@ -13,7 +13,7 @@ use crate::outer_text::OuterText;
 use crate::shape::{Choice, Symbol};
 use crate::types::Types;
 use indexmap::IndexSet;
-use kconf_parse::{DefaultOf, Expr, Kind, SelectOf};
+use kconf_entries::{DefaultOf, Expr, Kind, SelectOf};
 use std::marker::Model;
 
 /// The symbols and choices of a Kconfig text, numbered from 0 in order of first declaration, with their
@@ -29,7 +29,7 @@ pub struct Parts {
 
 impl Model for Parts {
     ghost use Rattle.kconf_tree.specs.Shape.{Shape};
-    ghost use Rattle.kconf_parse.specs.contracts.expr.Expr as e;
+    ghost use Rattle.kconf_entries.specs.contracts.expr.Expr as e;
     ghost use Rattle.std.specs.Coded.{codes};
 
     ghost Value = { Shape };

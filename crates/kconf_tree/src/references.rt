@@ -7,7 +7,7 @@ ghost use Rattle.kconf_tree.specs.References as spec;
 use crate::parts::Parts;
 use crate::place::Place;
 use crate::types::is_text_or_number;
-use kconf_parse::{DefaultOf, Expr, Side, Sign};
+use kconf_entries::{DefaultOf, Expr, Side, Sign};
 use sqlite_items::Items;
 use std::alloc::AllocError;
 use ut_logic::{Text, Trit};

@@ -1,4 +1,4 @@
-use kconf_parse::{DefaultOf, Expr, Kind, SelectOf};
+use kconf_entries::{DefaultOf, Expr, Kind, SelectOf};
 use sqlite_items::Items;
 use ut_logic::Text;
 

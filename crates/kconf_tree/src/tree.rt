@@ -11,7 +11,7 @@ mod undeclared;
 
 use crate::links::Links;
 use crate::parts::Parts;
-use kconf_parse::{DefaultOf, Expr, Kind, SelectOf};
+use kconf_entries::{DefaultOf, Expr, Kind, SelectOf};
 use std::marker::Model;
 use ut_logic::Node;
 
@@ -26,7 +26,7 @@ pub struct Tree {
 
 impl Model for Tree {
     ghost use Rattle.kconf_tree.specs.Arranged.{Arranged};
-    ghost use Rattle.kconf_parse.specs.contracts.expr.Expr as e;
+    ghost use Rattle.kconf_entries.specs.contracts.expr.Expr as e;
     ghost use Rattle.std.specs.Coded.{codes};
 
     ghost Value = { Arranged };

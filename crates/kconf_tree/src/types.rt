@@ -10,7 +10,7 @@ ghost use Rattle.kconf_tree.specs.Types as types;
 
 use crate::shape::Symbol;
 use indexmap::{Equivalent, IndexMap};
-use kconf_parse::{ConfigEntry, Kind, Side, Sign};
+use kconf_entries::{ConfigEntry, Kind, Side, Sign};
 use sqlite_items::Items;
 use std::alloc::{AllocError, Global};
 use std::marker::Model;

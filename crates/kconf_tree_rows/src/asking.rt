@@ -1,6 +1,6 @@
 //! What is asked of trees, in tables: a row is the answer that is wanted, a blank, and the lines of a tree.
+use kconf_entries::Sign;
 use kconf_notation::{built, side};
-use kconf_parse::Sign;
 use kconf_tree::{Selector, Tree, TreeBad};
 use std::alloc::{AllocError, Global};
 use ut_logic::{Node, Text};

@@ -1,4 +1,4 @@
-use kconf_parse::{ChoiceEntry, ConfigEntry, DefaultOf, Entries, Expr, Kind};
+use kconf_entries::{ChoiceEntry, ConfigEntry, DefaultOf, Entries, Expr, Kind};
 use kconf_tree::{Tree, TreeBad, have_choices};
 use std::alloc::{AllocError, Global};
 use std::test::Fail;

@@ -9,15 +9,15 @@ use Rattle.std.proofs.lemmas.List.Quantifiers.{position-Some}
 use Rattle.std.specs.List.{list_any, list_all, flat_map, prefix_len, position_or_len}
 use Rattle.ut_logic.specs.Text.{text_eq}
 use Rattle.ut_logic.specs.declared.trit.Trit.TheVariants.{Y}
-use Rattle.kconf_parse.specs.declared.expr.Expr.{Expr, out-Expr}
-use Rattle.kconf_parse.specs.declared.expr.Expr.TheOpen.{Expr-F}
-use Rattle.kconf_parse.specs.declared.expr.Expr.TheVariants.{Const, Name, And}
-use Rattle.kconf_parse.specs.declared.expr.Expr.TheFolds.{fold_out-Expr, map-Expr}
-use Rattle.kconf_parse.specs.declared.expr.Expr.TheViews.{the_lemmas}
-use Rattle.kconf_parse.specs.declared.entries.ConfigEntry.{ConfigEntry}
-use Rattle.kconf_parse.specs.declared.entries.Entries.{Entries}
+use Rattle.kconf_entries.specs.declared.expr.Expr.{Expr, out-Expr}
+use Rattle.kconf_entries.specs.declared.expr.Expr.TheOpen.{Expr-F}
+use Rattle.kconf_entries.specs.declared.expr.Expr.TheVariants.{Const, Name, And}
+use Rattle.kconf_entries.specs.declared.expr.Expr.TheFolds.{fold_out-Expr, map-Expr}
+use Rattle.kconf_entries.specs.declared.expr.Expr.TheViews.{the_lemmas}
+use Rattle.kconf_entries.specs.declared.entries.ConfigEntry.{ConfigEntry}
+use Rattle.kconf_entries.specs.declared.entries.Entries.{Entries}
 use Rattle.kconf_parse.specs.FirstForm.{entry_of, is_declared}
-use Rattle.kconf_parse.specs.Joined.{all_of_names}
+use Rattle.kconf_entries.specs.Joined.{all_of_names}
 use Rattle.kconf_tree.specs.declared.shape.Symbol.{Symbol}
 use Rattle.kconf_tree.specs.declared.shape.Counts.TheVariants as counts
 use Rattle.kconf_tree.specs.Shape.{Shape, symbol_at, no_symbol, number_of, counts_as, counts_with, is_member, is_the, selects_from}

@@ -4,8 +4,8 @@ use Rattle.std.proofs.Common.{◌≡◌, ℕ, ◌+◌, ◌-◌, Bool, true, fals
 use Rattle.std.proofs.lemmas.List.Folds.{list_any-append}
 use Rattle.std.specs.List.{list_all}
 use Rattle.ut_logic.specs.Text.{text_eq}
-use Rattle.kconf_parse.specs.declared.entries.ConfigEntry.{ConfigEntry}
-use Rattle.kconf_parse.specs.declared.entries.Entries.{Entries}
+use Rattle.kconf_entries.specs.declared.entries.ConfigEntry.{ConfigEntry}
+use Rattle.kconf_entries.specs.declared.entries.Entries.{Entries}
 use Rattle.kconf_parse.specs.declared.first_form.Place.{Place}
 use Rattle.kconf_parse.specs.declared.first_form.Place.TheVariants.{Start, Heading, Entry}
 use Rattle.kconf_parse.specs.declared.first_lines.FirstLine.{FirstLine}

@@ -6,7 +6,7 @@ use Rattle.std.specs.FinMap.{get}
 use Rattle.std.specs.declared.alloc.Global.{Global}
 use Rattle.std.specs.declared.alloc.AllocError.{AllocError}
 use Rattle.ut_base.specs.Outside.{Held}
-use Rattle.kconf_parse.specs.declared.entries.Entries.{Entries}
+use Rattle.kconf_entries.specs.declared.entries.Entries.{Entries}
 use Rattle.cpp_read.specs.declared.bad.CppBad.{CppBad}
 use Rattle.cpp_read.specs.declared.bad.CppBad.TheVariants as cpp
 use Rattle.cpp_read.specs.declared.directive.Directive.{Directive}

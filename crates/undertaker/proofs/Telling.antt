@@ -4,7 +4,7 @@ use Rattle.std.specs.Prelude.{IfSome}
 use Rattle.std.specs.FinMap.{get}
 use Rattle.ut_base.specs.Outside.{Held}
 use Rattle.ut_base.specs.declared.limits.Limit.TheVariants.{FileBytes}
-use Rattle.kconf_parse.specs.declared.entries.Entries.{Entries}
+use Rattle.kconf_entries.specs.declared.entries.Entries.{Entries}
 use Rattle.kconf_parse.specs.FirstForm.{first_tree_of}
 use Rattle.kconf_parse.proofs.FirstBadLineLemmas as kconf
 use Rattle.cpp_read.specs.FirstForm.{first_directives_of}

@@ -3,9 +3,9 @@
 use Rattle.std.specs.Prelude.{◌≡◌, ◌==◌, ℕ, Bool, true, List, [], ◌∷◌, get_or, map, filter_map, ◌<◌, length, All}
 use Rattle.std.specs.List.{list_all, list_any, flat_map}
 use Rattle.undertaker.specs.Names.{number_among}
-use Rattle.kconf_parse.specs.declared.expr.Expr.{Expr, out-Expr}
-use Rattle.kconf_parse.specs.declared.expr.Expr.TheOpen.{Expr-F}
-use Rattle.kconf_parse.specs.declared.entries.ConfigEntry.{ConfigEntry}
+use Rattle.kconf_entries.specs.declared.expr.Expr.{Expr, out-Expr}
+use Rattle.kconf_entries.specs.declared.expr.Expr.TheOpen.{Expr-F}
+use Rattle.kconf_entries.specs.declared.entries.ConfigEntry.{ConfigEntry}
 
 -- the names by number, and for each symbol what it needs
 pub record Graph : Type 0 where

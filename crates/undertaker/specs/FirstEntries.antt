@@ -2,8 +2,8 @@
 -- and each name is new. This project's rule.
 use Rattle.std.specs.Prelude.{◌≡◌, ℕ, true, false, List, [], ◌∷◌, ◌++◌, Ok}
 use Rattle.std.specs.List.{list_all}
-use Rattle.kconf_parse.specs.declared.entries.ConfigEntry.{ConfigEntry}
-use Rattle.kconf_parse.specs.declared.entries.Entries.{Entries}
+use Rattle.kconf_entries.specs.declared.entries.ConfigEntry.{ConfigEntry}
+use Rattle.kconf_entries.specs.declared.entries.Entries.{Entries}
 use Rattle.kconf_parse.specs.FirstForm.{entry_of, is_declared, first_tree_of}
 
 -- the entries behind those of these names

@@ -8,7 +8,7 @@ use crate::dependencies::Dependencies;
 use crate::judging::words_of_steps;
 use crate::steps::steps_of;
 use cpp_read::Directive;
-use kconf_parse::Entries;
+use kconf_entries::Entries;
 use std::alloc::{AllocError, Global};
 use ut_verdict::Word;
 

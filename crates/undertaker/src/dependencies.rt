@@ -1,12 +1,12 @@
 ghost use Rattle.std.specs.Prelude.{◌≡◌, ◌<◌, [], ◌++◌, IfOk, OnOk, option_to_list, length, All};
-ghost use Rattle.kconf_parse.specs.declared.expr.Expr.{out-Expr};
+ghost use Rattle.kconf_entries.specs.declared.expr.Expr.{out-Expr};
 ghost use Rattle.undertaker.specs.Names.{number_among};
 ghost use Rattle.undertaker.specs.Dependencies.{graph_of, needs_at, names_in, name_at, names_of_members, numbers_of, declared_in, rows_of};
 ghost use Rattle.undertaker.specs.FirstEntries.{AreFirst};
 
 use crate::names::Names;
 use crate::numbers::put;
-use kconf_parse::{ConfigEntry, Entries, Expr};
+use kconf_entries::{ConfigEntry, Entries, Expr};
 use sqlite_items::Items;
 use std::alloc::{AllocError, Global};
 use std::marker::Model;

@@ -18,7 +18,8 @@ use crate::report::{refused_lines, verdict_lines};
 use crate::status::Status;
 use crate::words::names_of;
 use cpp_read::{Directive, first_directives};
-use kconf_parse::{Entries, first_tree};
+use kconf_entries::Entries;
+use kconf_parse::first_tree;
 use std::alloc::{AllocError, Global};
 use ut_base::{Files, Meter, Name, TakeBad, Word, take};
 

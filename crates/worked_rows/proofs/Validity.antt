@@ -2,11 +2,11 @@
 use Rattle.std.proofs.Common.{◌≡◌, ℕ, ◌<◌, ◌==◌, zero, suc, Bool, true, false, cond, refl, ap, sym, subst, ◌∙◌, arith, rules, List, Option, None, Some, max, min, inr, codes}
 use Rattle.std.proofs.lemmas.Bool.Decides.{nat_tests}
 use Rattle.ut_logic.specs.declared.trit.Trit.TheVariants.{Y}
-use Rattle.kconf_parse.specs.declared.expr.Expr.{Expr, out-Expr}
-use Rattle.kconf_parse.specs.declared.expr.Expr.TheOpen.{Expr-F}
-use Rattle.kconf_parse.specs.declared.expr.Expr.TheVariants.{Const, Name}
-use Rattle.kconf_parse.specs.declared.expr.Expr.TheFolds.{fold_out-Expr, map-Expr}
-use Rattle.kconf_parse.specs.declared.expr.Expr.TheViews.{the_lemmas}
+use Rattle.kconf_entries.specs.declared.expr.Expr.{Expr, out-Expr}
+use Rattle.kconf_entries.specs.declared.expr.Expr.TheOpen.{Expr-F}
+use Rattle.kconf_entries.specs.declared.expr.Expr.TheVariants.{Const, Name}
+use Rattle.kconf_entries.specs.declared.expr.Expr.TheFolds.{fold_out-Expr, map-Expr}
+use Rattle.kconf_entries.specs.declared.expr.Expr.TheViews.{the_lemmas}
 use Rattle.kconf_tree.specs.declared.shape.Counts.TheVariants as counts
 use Rattle.kconf_tree.specs.Shape.{Shape}
 use Rattle.kconf_tree.specs.declared.place.Place.TheVariants.{Condition}

@@ -7,9 +7,9 @@ use Rattle.cpp_read.specs.declared.directive.What.TheVariants.{If, Elif, Else, E
 use Rattle.cpp_read.specs.declared.directive.Gives.TheVariants.{Free}
 use Rattle.cpp_read.specs.declared.condition.Cond.TheVariants.{Defined, Neg}
 use Rattle.ut_logic.specs.declared.trit.Trit.TheVariants.{Y}
-use Rattle.kconf_parse.specs.declared.expr.Expr.TheVariants.{Const}
-use Rattle.kconf_parse.specs.declared.entries.Kind.TheVariants as kind
-use Rattle.kconf_parse.specs.declared.entries.Entries.{Entries}
+use Rattle.kconf_entries.specs.declared.expr.Expr.TheVariants.{Const}
+use Rattle.kconf_entries.specs.declared.entries.Kind.TheVariants as kind
+use Rattle.kconf_entries.specs.declared.entries.Entries.{Entries}
 use Rattle.kconf_parse.specs.FirstForm.{entry_of}
 use Rattle.kconf_tree.specs.Shape.{Shape}
 use Rattle.kconf_tree.specs.Gathered.{gathered}

@@ -9,7 +9,7 @@ use crate::modules_symbol::modules_among;
 use crate::outers::outers;
 use crate::parts::Parts;
 use crate::types::Types;
-use kconf_parse::Entries;
+use kconf_entries::Entries;
 use std::alloc::{AllocError, Global};
 
 impl Parts {

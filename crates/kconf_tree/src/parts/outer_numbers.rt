@@ -5,7 +5,7 @@ ghost use Rattle.kconf_tree.specs.Value as value;
 use crate::asked_comparison::AskedComparison;
 use crate::outer_text::AskedText;
 use crate::parts::Parts;
-use kconf_parse::{Side, Sign};
+use kconf_entries::{Side, Sign};
 
 impl Parts {
     /// The number of the outer condition with this text, if there is one.

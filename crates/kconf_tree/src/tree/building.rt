@@ -6,7 +6,7 @@ use crate::limits::{Passed, past_symbols};
 use crate::parts::Parts;
 use crate::tree::Tree;
 use crate::types::Types;
-use kconf_parse::Entries;
+use kconf_entries::Entries;
 use std::alloc::Global;
 
 /// The refusal of a count that passes its limit.

@@ -4,7 +4,7 @@ ghost use Rattle.kconf_tree.specs.Value as value;
 
 use crate::shape::{Counts, Selector};
 use crate::tree::Tree;
-use kconf_parse::{Side, Sign};
+use kconf_entries::{Side, Sign};
 
 impl Tree {
     /// The selects of a symbol by others, in order of declaration: who selects it, and the place of the select

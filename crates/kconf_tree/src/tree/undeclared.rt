@@ -6,7 +6,7 @@ ghost use Rattle.kconf_tree.specs.Shape as shape;
 ghost use Rattle.kconf_tree.specs.Undeclared as spec;
 
 use crate::tree::Tree;
-use kconf_parse::{DefaultOf, Expr, SelectOf, Side, Sign};
+use kconf_entries::{DefaultOf, Expr, SelectOf, Side, Sign};
 use std::alloc::{AllocError, Global};
 use std::collections::BTreeSet;
 use ut_logic::Text;

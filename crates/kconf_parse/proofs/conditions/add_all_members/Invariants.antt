@@ -1,5 +1,5 @@
 use Rattle.std.proofs.Common.{◌≡◌, ◌++◌, drop}
-use Rattle.kconf_parse.specs.Joined.{members_of_all}
+use Rattle.kconf_entries.specs.Joined.{members_of_all}
 use Rattle.kconf_parse.proofs.conditions.add_all_members.Given as goal
 
 abbrev pub invariant-loop-condition : goal.invariant-loop-condition

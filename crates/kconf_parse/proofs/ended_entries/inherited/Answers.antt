@@ -1,8 +1,8 @@
 use Rattle.std.proofs.Common.{◌≡◌, ◌<◌, ◌+◌, ◌++◌, ◌∙◌, ◌∷◌, ℕ, List, length, drop, get_or, append_assoc, ap, sym}
 use Rattle.std.proofs.lemmas.List.{at_drop_more}
-use Rattle.kconf_parse.specs.declared.expr.Expr.{Expr}
+use Rattle.kconf_entries.specs.declared.expr.Expr.{Expr}
 use Rattle.kconf_parse.specs.declared.entry_lines.Opener.{Opener}
-use Rattle.kconf_parse.specs.Joined.{members_of_all}
+use Rattle.kconf_entries.specs.Joined.{members_of_all}
 use Rattle.kconf_parse.specs.Entries.{inherited}
 use Rattle.kconf_parse.proofs.EntryLemmas.{members_append}
 use Rattle.kconf_parse.proofs.ended_entries.inherited.Goals as goal

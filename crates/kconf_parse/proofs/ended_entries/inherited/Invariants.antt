@@ -1,5 +1,5 @@
 use Rattle.std.proofs.Common.{◌≡◌, ◌++◌, drop}
-use Rattle.kconf_parse.specs.Joined.{members_of_all}
+use Rattle.kconf_entries.specs.Joined.{members_of_all}
 use Rattle.kconf_parse.specs.Entries.{inherited}
 use Rattle.kconf_parse.proofs.ended_entries.inherited.Given as goal
 

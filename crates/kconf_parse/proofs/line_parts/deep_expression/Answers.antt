@@ -1,6 +1,6 @@
 use Rattle.std.proofs.Common.{◌≡◌, ◌<◌, ◌-◌, ◌∙◌, ℕ, Option, None, Some, Result, Ok, Err, List, length, take, drop, length-drop, ap, sym, refl, arith}
 use Rattle.std.proofs.lemmas.List.{take_all}
-use Rattle.kconf_parse.specs.declared.expr.Expr.{Expr}
+use Rattle.kconf_entries.specs.declared.expr.Expr.{Expr}
 use Rattle.kconf_parse.specs.declared.line_bad.LineBad.{LineBad}
 use Rattle.std.specs.Option.{option_map}
 use Rattle.kconf_parse.specs.declared.line_words.LineWord.{LineWord}

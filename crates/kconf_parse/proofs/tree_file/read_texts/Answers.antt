@@ -1,7 +1,7 @@
 use Rattle.std.proofs.Common.{Err, refl, ◌∙◌, arith}
 use Rattle.std.proofs.lemmas.Result.{err_from_is_err_and}
 use Rattle.ut_base.specs.Outside.{Held}
-use Rattle.kconf_parse.specs.declared.entries.Entries.{Entries}
+use Rattle.kconf_entries.specs.declared.entries.Entries.{Entries}
 use Rattle.kconf_parse.specs.Entries.{at_start}
 use Rattle.kconf_parse.specs.OpenTexts.{root_alone, from_root}
 use Rattle.kconf_parse.specs.TreeFile.{IsMissing, IsReadFault, IsTooLong}

@@ -1,6 +1,6 @@
 -- What is left gives the rest.
 use Rattle.std.proofs.Common.{◌≡◌, drop, length, map}
-use Rattle.kconf_parse.specs.declared.entries.ChoiceEntry.{ChoiceEntry}
+use Rattle.kconf_entries.specs.declared.entries.ChoiceEntry.{ChoiceEntry}
 use Rattle.kconf_tree.specs.Choosing.{typed_by_all}
 use Rattle.kconf_tree.proofs.choices.typed_kinds.Given as goal
 

@@ -1,6 +1,6 @@
 use Rattle.std.proofs.Common.{◌≡◌, ◌<◌, sym, ap, ◌∙◌, subst, List, length, map, All, arith}
 use Rattle.ut_logic.specs.Text.{text_eq}
-use Rattle.kconf_parse.specs.declared.entries.ChoiceEntry.{ChoiceEntry}
+use Rattle.kconf_entries.specs.declared.entries.ChoiceEntry.{ChoiceEntry}
 use Rattle.kconf_tree.specs.declared.shape.Symbol.{Symbol}
 use Rattle.kconf_tree.specs.declared.shape.Choice.{Choice}
 use Rattle.kconf_tree.specs.Apart.{AreApart}

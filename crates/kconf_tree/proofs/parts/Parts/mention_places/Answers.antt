@@ -1,7 +1,7 @@
 use Rattle.std.proofs.Common.{◌≡◌, ◌++◌, List, [], ◌∷◌, map, ap, sym, subst, ◌∙◌, refl}
 use Rattle.std.specs.Result.{OnOk}
 use Rattle.std.proofs.lemmas.Bool.{false≢true}
-use Rattle.kconf_parse.specs.declared.expr.Expr.{Expr}
+use Rattle.kconf_entries.specs.declared.expr.Expr.{Expr}
 use Rattle.kconf_tree.specs.declared.shape.Selector.{Selector}
 use Rattle.kconf_tree.specs.declared.links.Link.TheVariants.{Implies}
 use Rattle.kconf_tree.specs.Shape.{Shape, symbol_at}

@@ -1,7 +1,7 @@
 -- What is left, behind what is there, gives the whole.
 use Rattle.std.proofs.Common.{◌≡◌, ◌++◌, drop}
 use Rattle.std.specs.List.{flat_map}
-use Rattle.kconf_parse.specs.declared.entries.SelectOf.{SelectOf}
+use Rattle.kconf_entries.specs.declared.entries.SelectOf.{SelectOf}
 use Rattle.kconf_tree.specs.Undeclared.{undeclared_in}
 use Rattle.kconf_tree.proofs.tree.Tree.push_conditions.Given as goal
 

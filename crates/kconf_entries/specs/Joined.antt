@@ -2,9 +2,9 @@
 -- members. Rule: Linux kconfig-language, "Menu dependencies"; the shape is this project's.
 use Rattle.std.specs.Prelude.{ℕ, List, [], ◌∷◌, ◌++◌, map}
 use Rattle.ut_logic.specs.declared.trit.Trit.TheVariants.{Y}
-use Rattle.kconf_parse.specs.declared.expr.Expr.{Expr, out-Expr}
-use Rattle.kconf_parse.specs.declared.expr.Expr.TheOpen.{Expr-F}
-use Rattle.kconf_parse.specs.declared.expr.Expr.TheVariants.{Const, Name, And}
+use Rattle.kconf_entries.specs.declared.expr.Expr.{Expr, out-Expr}
+use Rattle.kconf_entries.specs.declared.expr.Expr.TheOpen.{Expr-F}
+use Rattle.kconf_entries.specs.declared.expr.Expr.TheVariants.{Const, Name, And}
 
 -- no member is the constant y, one stands alone, more are an And list
 abbrev pub joined : List Expr → Expr

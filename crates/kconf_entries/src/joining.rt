@@ -1,5 +1,5 @@
 ghost use Rattle.std.specs.Prelude.{◌≡◌, ◌++◌, IfOk, OnOk};
-ghost use Rattle.kconf_parse.specs.Joined as spec;
+ghost use Rattle.kconf_entries.specs.Joined as spec;
 
 use crate::expr::Expr;
 use sqlite_items::Items;
