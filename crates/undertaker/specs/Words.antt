@@ -2,7 +2,7 @@
 -- This project's rule.
 use Rattle.std.specs.Prelude.{ℕ, Bool, ◌&&◌, not, List, [], ◌∷◌, Option, Some, None, if◌then◌else◌, codes}
 use Rattle.std.specs.Str.{bytes_eq}
-use Rattle.ut_base.specs.NameOrder.{byte_eq}
+use Rattle.ut_text.specs.Text.{text_eq}
 use Rattle.ut_base.specs.Names.{is_name}
 
 -- the words in front of the two names
@@ -11,7 +11,7 @@ is_dead_job j job option = bytes_eq j (codes "-j") && (bytes_eq job (codes "dead
 
 -- two different names
 abbrev pub are_names : List ℕ → List ℕ → Bool
-are_names kconfig source = is_name kconfig && (is_name source && not (byte_eq kconfig source))
+are_names kconfig source = is_name kconfig && (is_name source && not (text_eq kconfig source))
 
 -- the names of the Kconfig text and the source, where the words have the form
 abbrev pub names_in : List (List ℕ) → Option (List ℕ × List ℕ)
