@@ -10,10 +10,10 @@ use Rattle.ut_logic.specs.Text.{text_eq}
 use Rattle.ut_logic.specs.Truth.{truth, truths, all_true, any_true}
 use Rattle.ut_logic.specs.Fold.{all_of, any_of}
 use Rattle.ut_logic.proofs.FoldLaws.{truth-Yes, truth-No, truth-Is, truth-not_of, truth-all_of, truth-any_of}
-use Rattle.cpp_read.specs.declared.condition.Cond.{Cond}
-use Rattle.cpp_read.specs.declared.condition.Cond.TheOpen.{Cond-F}
-use Rattle.cpp_read.specs.declared.condition.Cond.TheFolds.{fold-roll-Cond, ind-Cond, map-Cond}
-use Rattle.cpp_read.specs.declared.condition.Cond.TheViews.{roll-Cond}
+use Rattle.cpp_directives.specs.declared.condition.Cond.{Cond}
+use Rattle.cpp_directives.specs.declared.condition.Cond.TheOpen.{Cond-F}
+use Rattle.cpp_directives.specs.declared.condition.Cond.TheFolds.{fold-roll-Cond, ind-Cond, map-Cond}
+use Rattle.cpp_directives.specs.declared.condition.Cond.TheViews.{roll-Cond}
 use Rattle.cpp_blocks.specs.Formulas.{Source, turns_behind, piece_in, defined_item, true_item, formula_step, formula_of}
 use Rattle.cpp_blocks.specs.Mentions.{names_step, names_in}
 use Rattle.cpp_blocks.specs.Run.{Start, Running, is_defined, is_true, cond_step, holds, touches}

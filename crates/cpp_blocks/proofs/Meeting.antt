@@ -13,11 +13,11 @@ use Rattle.ut_logic.specs.Fold.{not_of, all_of, any_of}
 use Rattle.ut_logic.specs.Facts.{IsDefined, Meets}
 use Rattle.ut_logic.specs.Truth.{truth, truths, all_true, any_true}
 use Rattle.ut_logic.proofs.FoldLaws.{truth-Yes, truth-No, truth-Is, truth-not_of, truth-all_of, truth-any_of}
-use Rattle.cpp_read.specs.declared.condition.Cond.{Cond}
-use Rattle.cpp_read.specs.declared.directive.Gives.{Gives}
-use Rattle.cpp_read.specs.declared.directive.Gives.TheVariants.{Zero, Nonzero, Free}
-use Rattle.cpp_read.specs.declared.directive.What.{What}
-use Rattle.cpp_read.specs.declared.directive.What.TheVariants.{If, Elif, Else, Endif, Define, Undef}
+use Rattle.cpp_directives.specs.declared.condition.Cond.{Cond}
+use Rattle.cpp_directives.specs.declared.directive.Gives.{Gives}
+use Rattle.cpp_directives.specs.declared.directive.Gives.TheVariants.{Zero, Nonzero, Free}
+use Rattle.cpp_directives.specs.declared.directive.What.{What}
+use Rattle.cpp_directives.specs.declared.directive.What.TheVariants.{If, Elif, Else, Endif, Define, Undef}
 use Rattle.cpp_blocks.specs.declared.groups.OpenGroups.{OpenGroups}
 use Rattle.cpp_blocks.specs.declared.state.MacroState.{MacroState}
 use Rattle.cpp_blocks.specs.declared.state.MacroState.TheVariants.{Undefined, DefinedFalse, DefinedTrue}

@@ -4,15 +4,15 @@ use Rattle.std.specs.Prelude.{nat_le}
 use Rattle.std.specs.Prelude.{nat_lt}
 use Rattle.std.specs.List.{All, AllPairs, AllWithin}
 use Rattle.std.proofs.lemmas.List.Kept.{AllPairs-cons}
-use Rattle.cpp_blocks.specs.WellFormed.{lines_rise}
+use Rattle.cpp_directives.specs.WellFormed.{lines_rise, begins_block, block_count}
 use Rattle.std.specs.List.Sorted.{IsPartitionedBy, IsPartitionPoint}
 use Rattle.std.proofs.lemmas.List.{append-nil}
 use Rattle.std.proofs.lemmas.Bool.{false≢true}
 use Rattle.std.proofs.lemmas.Bool.Decides.{nat_tests}
 use Rattle.std.proofs.Common.{length-append}
-use Rattle.cpp_read.specs.declared.directive.Directive.{Directive}
-use Rattle.cpp_read.specs.declared.directive.What.{What}
-use Rattle.cpp_read.specs.declared.directive.What.TheVariants.{If, Elif, Else, Endif, Define, Undef}
+use Rattle.cpp_directives.specs.declared.directive.Directive.{Directive}
+use Rattle.cpp_directives.specs.declared.directive.What.{What}
+use Rattle.cpp_directives.specs.declared.directive.What.TheVariants.{If, Elif, Else, Endif, Define, Undef}
 use Rattle.cpp_blocks.specs.Blocks.{innermost, outside, open_behind, parent_at, next_behind, parents_from}
 use Rattle.cpp_blocks.specs.Kept.{inner_from}
 use Rattle.cpp_blocks.specs.Nested.{Nested, passed, all_passed}
@@ -48,6 +48,20 @@ pub all_inner : (ds : List Directive) (place : ℕ) (n : Nested) → (all_passed
 all_inner [] place n = sym (append-nil n.inner)
 all_inner (d ∷ ds) place n = let p = passes place d.what n in all_inner ds (suc place) (passed place d.what n)
     ∙ ((λ i. p.inner_is i ++ inner_from (p.next_is i) (p.inside_is i) ds) ∙ append_assoc n.inner (innermost (open_behind n.next n.inside d.what) ∷ []) (inner_from (next_behind n.next d.what) (open_behind n.next n.inside d.what) ds))
+
+-- as many blocks as directives that begin one
+pub as_many_blocks : (ds : List Directive) (next : ℕ) (inside : List ℕ) → length (parents_from next inside ds) ≡ block_count ds
+as_many_blocks [] next inside = refl
+as_many_blocks (d ∷ ds) next inside = length-append (parent_at inside d.what) (parents_from (next_behind next d.what) (open_behind next inside d.what) ds)
+    ∙ (λ i. one d.what i + as_many_blocks ds (next_behind next d.what) (open_behind next inside d.what) i)
+  where
+    one : (w : What) → length (parent_at inside w) ≡ cond (begins_block w) 1 0
+    one (If cond) = refl
+    one (Elif cond) = refl
+    one Else = refl
+    one Endif = refl
+    one (Define name gives) = refl
+    one (Undef name) = refl
 
 -- as many opening places as parents
 pub as_many : (ds : List Directive) (place next : ℕ) (inside : List ℕ) → length (openers_from place ds) ≡ length (parents_from next inside ds)

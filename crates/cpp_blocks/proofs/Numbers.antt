@@ -4,17 +4,17 @@ use Rattle.std.specs.List.{list_any, list_all, flat_map, position_or_len}
 use Rattle.std.proofs.lemmas.Bool.{false≢true}
 use Rattle.std.proofs.lemmas.List.Folds.{list_any-append}
 use Rattle.ut_logic.specs.Text.{text_eq, text_equiv, text_eq-exact}
-use Rattle.cpp_read.specs.declared.directive.Directive.{Directive}
-use Rattle.cpp_read.specs.declared.directive.What.{What}
-use Rattle.cpp_read.specs.declared.directive.What.TheVariants.{If, Elif, Else, Endif, Define, Undef}
+use Rattle.cpp_directives.specs.declared.directive.Directive.{Directive}
+use Rattle.cpp_directives.specs.declared.directive.What.{What}
+use Rattle.cpp_directives.specs.declared.directive.What.TheVariants.{If, Elif, Else, Endif, Define, Undef}
 use Rattle.cpp_blocks.specs.declared.groups.OpenGroups.{OpenGroups}
 use Rattle.cpp_blocks.specs.Blocks.{innermost, outside, open_behind, parent_at, next_behind, parents_from}
 use Rattle.cpp_blocks.specs.Formulas.{source_of}
 use Rattle.cpp_blocks.specs.Mentions.{with_new, firsts, names_at}
 use Rattle.cpp_blocks.specs.Steps.{Standing, behind}
 use Rattle.cpp_blocks.specs.Steps as Steps
-use Rattle.cpp_blocks.specs.declared.well_formed.Chain.{Chain}
-use Rattle.cpp_blocks.specs.WellFormed.{takes_group, with_group, is_inside, may_stand, chains_behind, closed, chains_match}
+use Rattle.cpp_directives.specs.declared.well_formed.Chain.{Chain}
+use Rattle.cpp_directives.specs.WellFormed.{takes_group, with_group, is_inside, may_stand, chains_after, closed, chains_match}
 use Rattle.cpp_blocks.proofs.Along.{AllKnown, at_end}
 use Rattle.cpp_blocks.proofs.CondTruth.{and_front, and_back}
 
@@ -93,19 +93,19 @@ round_length (c ∷ cs) (o ∷ os) h = omega arith
 pub next_at_end : (ds : List Directive) (at : Standing) (cs : List Chain) (next : ℕ) (inside : List ℕ) → length at.chains ≡ length cs → chains_match cs ds ≡ true
     → (at_end at ds).next ≡ at.next + length (parents_from next inside ds)
 next_at_end [] at cs next inside h m = omega arith
-next_at_end (d ∷ ds) at cs next inside h m = by d.what (and_front (may_stand cs d.what) (chains_match (chains_behind cs d.what) ds) m) (and_back (may_stand cs d.what) (chains_match (chains_behind cs d.what) ds) m)
+next_at_end (d ∷ ds) at cs next inside h m = by d.what (and_front (may_stand cs d.what) (chains_match (chains_after cs d.what) ds) m) (and_back (may_stand cs d.what) (chains_match (chains_after cs d.what) ds) m)
     (λ at' cs' next' inside'. next_at_end ds at' cs' next' inside')
   where
-    by : (w : What) → may_stand cs w ≡ true → chains_match (chains_behind cs w) ds ≡ true
+    by : (w : What) → may_stand cs w ≡ true → chains_match (chains_after cs w) ds ≡ true
         → ((at' : Standing) (cs' : List Chain) (next' : ℕ) (inside' : List ℕ) → length at'.chains ≡ length cs' → chains_match cs' ds ≡ true → (at_end at' ds).next ≡ at'.next + length (parents_from next' inside' ds))
         → (at_end (behind at w) ds).next ≡ at.next + length (parent_at inside w ++ parents_from (next_behind next w) (open_behind next inside w) ds)
-    by (If c) stand rest go = let e : (at_end (behind at (If c)) ds).next ≡ suc at.next + length (parents_from (suc next) (next ∷ inside) ds) = go (behind at (If c)) (chains_behind cs (If c)) (suc next) (next ∷ inside) (ap suc h) rest in omega arith
+    by (If c) stand rest go = let e : (at_end (behind at (If c)) ds).next ≡ suc at.next + length (parents_from (suc next) (next ∷ inside) ds) = go (behind at (If c)) (chains_after cs (If c)) (suc next) (next ∷ inside) (ap suc h) rest in omega arith
     by (Elif c) stand rest go = let s = some_chain at cs at.chains h stand in
         let n = s.0 in
-        let e = go (behind at (Elif c)) (chains_behind cs (Elif c)) (suc next) (next ∷ outside inside) (s.1 false) rest in omega arith
+        let e = go (behind at (Elif c)) (chains_after cs (Elif c)) (suc next) (next ∷ outside inside) (s.1 false) rest in omega arith
     by Else stand rest go = let s = some_chain at cs at.chains h stand in
         let n = s.0 in
-        let e = go (behind at Else) (chains_behind cs Else) (suc next) (next ∷ outside inside) (s.1 true) rest in omega arith
-    by Endif stand rest go = go (behind at Endif) (chains_behind cs Endif) next (outside inside) (round_length cs at.chains h) rest
+        let e = go (behind at Else) (chains_after cs Else) (suc next) (next ∷ outside inside) (s.1 true) rest in omega arith
+    by Endif stand rest go = go (behind at Endif) (chains_after cs Endif) next (outside inside) (round_length cs at.chains h) rest
     by (Define x gives) stand rest go = go at cs next inside h rest
     by (Undef x) stand rest go = go at cs next inside h rest

@@ -16,7 +16,7 @@ use Rattle.ut_logic.specs.ItemIdentity.{item_eq-Decides}
 use Rattle.ut_logic.specs.Truth.{truth, truths, all_true, mentioned}
 use Rattle.ut_logic.proofs.FoldLaws.{truth-not_of, truth-any_of}
 use Rattle.ut_logic.proofs.MentionLaws.{truth-agree}
-use Rattle.cpp_read.specs.declared.directive.Directive.{Directive}
+use Rattle.cpp_directives.specs.declared.directive.Directive.{Directive}
 use Rattle.cpp_blocks.specs.declared.starts.StartOf.{StartOf}
 use Rattle.cpp_blocks.specs.declared.starts.BuiltOf.{BuiltOf}
 use Rattle.cpp_blocks.specs.declared.state.MacroState.{MacroState}
@@ -28,7 +28,7 @@ use Rattle.cpp_blocks.specs.Mentions.{names_of}
 use Rattle.cpp_blocks.specs.Run.{Start, is_defined, is_true, is_on_in, run_of}
 use Rattle.cpp_blocks.specs.Solution.{state_of, start_state, start_of, beginning, states_behind, states_of, IsRun, is_own, AreStates, IsTheRun}
 use Rattle.cpp_blocks.specs.Steps.{facts_along}
-use Rattle.cpp_blocks.specs.WellFormed.{IsWellFormed}
+use Rattle.cpp_directives.specs.WellFormed.{IsWellFormed}
 use Rattle.cpp_blocks.proofs.Along.{AllKnown, each_front, each_back, each_both, at_end, run_keeps, StatesCome, stands_at_end, states_come, meets_along}
 use Rattle.cpp_blocks.proofs.CondTruth.{is_known, and_front, and_back}
 use Rattle.cpp_blocks.proofs.Meeting.{Each, each_of, all_of_each}

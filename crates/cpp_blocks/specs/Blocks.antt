@@ -2,9 +2,9 @@
 -- the next one, whose parent is the block round its chain.
 -- Rule: ISO C, "Conditional inclusion"; the numbers are this project's rule.
 use Rattle.std.specs.Prelude.{ℕ, List, [], ◌∷◌, ◌++◌, ◌-◌, suc, length, get_or}
-use Rattle.cpp_read.specs.declared.directive.Directive.{Directive}
-use Rattle.cpp_read.specs.declared.directive.What.{What}
-use Rattle.cpp_read.specs.declared.directive.What.TheVariants.{If, Elif, Else, Endif}
+use Rattle.cpp_directives.specs.declared.directive.Directive.{Directive}
+use Rattle.cpp_directives.specs.declared.directive.What.{What}
+use Rattle.cpp_directives.specs.declared.directive.What.TheVariants.{If, Elif, Else, Endif}
 
 -- the innermost open block, where `inside` lists the open ones but the file, innermost first
 abbrev pub innermost : List ℕ → ℕ

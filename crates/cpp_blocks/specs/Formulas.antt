@@ -11,10 +11,10 @@ use Rattle.ut_logic.specs.declared.node.Node.TheVariants as node
 use Rattle.ut_logic.specs.declared.formula.Formula.{Formula}
 use Rattle.ut_logic.specs.declared.formula.Formula.TheVariants.{Yes, No, Is}
 use Rattle.ut_logic.specs.Fold.{not_of, all_of, any_of}
-use Rattle.cpp_read.specs.declared.condition.Cond.{Cond}
-use Rattle.cpp_read.specs.declared.condition.Cond.TheOpen.{Cond-F}
-use Rattle.cpp_read.specs.declared.condition.Cond.TheFolds.{fold-Cond}
-use Rattle.cpp_read.specs.declared.directive.Directive.{Directive}
+use Rattle.cpp_directives.specs.declared.condition.Cond.{Cond}
+use Rattle.cpp_directives.specs.declared.condition.Cond.TheOpen.{Cond-F}
+use Rattle.cpp_directives.specs.declared.condition.Cond.TheFolds.{fold-Cond}
+use Rattle.cpp_directives.specs.declared.directive.Directive.{Directive}
 use Rattle.cpp_blocks.specs.declared.pieces.PieceOf.{PieceOf}
 use Rattle.cpp_blocks.specs.PieceIdentity.{piece_eq}
 use Rattle.cpp_blocks.specs.Mentions.{names_of, names_in}

@@ -1,7 +1,6 @@
 pub mod Pieces
 pub mod Blocks
 pub mod Run
-pub mod WellFormed
 pub mod Mentions
 pub mod PieceIdentity
 pub mod Nesting

@@ -1,8 +1,8 @@
 -- What the functions on nesting promise each other: the blocks of the directives passed so far.
 use Rattle.std.specs.Prelude.{ℕ, suc, List, [], ◌∷◌, ◌++◌}
-use Rattle.cpp_read.specs.declared.directive.Directive.{Directive}
-use Rattle.cpp_read.specs.declared.directive.What.{What}
-use Rattle.cpp_read.specs.declared.directive.What.TheVariants.{If, Elif, Else, Endif, Define, Undef}
+use Rattle.cpp_directives.specs.declared.directive.Directive.{Directive}
+use Rattle.cpp_directives.specs.declared.directive.What.{What}
+use Rattle.cpp_directives.specs.declared.directive.What.TheVariants.{If, Elif, Else, Endif, Define, Undef}
 use Rattle.cpp_blocks.specs.Blocks.{innermost, outside}
 
 -- the next block, the open blocks from the innermost, the parents and opening places of the blocks so far,

@@ -2,9 +2,9 @@
 -- directive of its chain, and a line outside all blocks belongs to the file, which is block 0.
 -- Rule: ISO C, "Conditional inclusion"; the numbers are this project's rule.
 use Rattle.std.specs.Prelude.{ℕ, suc, ◌-◌, nat_le, List, [], ◌∷◌, ◌++◌, filter, get_or}
-use Rattle.cpp_read.specs.declared.directive.Directive.{Directive}
-use Rattle.cpp_read.specs.declared.directive.What.{What}
-use Rattle.cpp_read.specs.declared.directive.What.TheVariants.{If, Elif, Else, Endif, Define, Undef}
+use Rattle.cpp_directives.specs.declared.directive.Directive.{Directive}
+use Rattle.cpp_directives.specs.declared.directive.What.{What}
+use Rattle.cpp_directives.specs.declared.directive.What.TheVariants.{If, Elif, Else, Endif, Define, Undef}
 use Rattle.cpp_blocks.specs.Blocks.{innermost, open_behind, next_behind}
 
 -- the open blocks behind directives, innermost first

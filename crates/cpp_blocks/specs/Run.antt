@@ -4,14 +4,14 @@
 use Rattle.std.specs.Prelude.{ℕ, Bool, true, false, not, ◌&&◌, ◌||◌, List, [], ◌∷◌, ◌++◌, if◌then◌else◌, get_or, filter, length}
 use Rattle.std.specs.List.{list_any, list_all}
 use Rattle.ut_logic.specs.Text.{text_eq}
-use Rattle.cpp_read.specs.declared.condition.Cond.{Cond}
-use Rattle.cpp_read.specs.declared.condition.Cond.TheOpen.{Cond-F}
-use Rattle.cpp_read.specs.declared.condition.Cond.TheFolds.{fold-Cond}
-use Rattle.cpp_read.specs.declared.directive.Directive.{Directive}
-use Rattle.cpp_read.specs.declared.directive.What.{What}
-use Rattle.cpp_read.specs.declared.directive.What.TheVariants.{If, Elif, Else, Endif, Define, Undef}
-use Rattle.cpp_read.specs.declared.directive.Gives.{Gives}
-use Rattle.cpp_read.specs.declared.directive.Gives.TheVariants.{Zero, Nonzero, Free}
+use Rattle.cpp_directives.specs.declared.condition.Cond.{Cond}
+use Rattle.cpp_directives.specs.declared.condition.Cond.TheOpen.{Cond-F}
+use Rattle.cpp_directives.specs.declared.condition.Cond.TheFolds.{fold-Cond}
+use Rattle.cpp_directives.specs.declared.directive.Directive.{Directive}
+use Rattle.cpp_directives.specs.declared.directive.What.{What}
+use Rattle.cpp_directives.specs.declared.directive.What.TheVariants.{If, Elif, Else, Endif, Define, Undef}
+use Rattle.cpp_directives.specs.declared.directive.Gives.{Gives}
+use Rattle.cpp_directives.specs.declared.directive.Gives.TheVariants.{Zero, Nonzero, Free}
 use Rattle.cpp_blocks.specs.declared.state.MacroState.{MacroState}
 use Rattle.cpp_blocks.specs.declared.state.MacroState.TheVariants.{Undefined, DefinedFalse, DefinedTrue}
 use Rattle.cpp_blocks.specs.Pieces.{names_of_piece}

@@ -8,7 +8,7 @@ use Rattle.ut_logic.specs.declared.facts.Fact.{Fact}
 use Rattle.ut_logic.specs.Facts.{MeetsAll}
 use Rattle.ut_logic.specs.Text.{text_eq}
 use Rattle.ut_logic.specs.Truth.{truth}
-use Rattle.cpp_read.specs.declared.directive.Directive.{Directive}
+use Rattle.cpp_directives.specs.declared.directive.Directive.{Directive}
 use Rattle.cpp_blocks.specs.declared.starts.StartOf.{StartOf}
 use Rattle.cpp_blocks.specs.declared.starts.BuiltOf.{BuiltOf}
 use Rattle.cpp_blocks.specs.declared.state.MacroState.{MacroState}

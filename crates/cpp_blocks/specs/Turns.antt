@@ -4,12 +4,12 @@ use Rattle.std.specs.Prelude.{◌≡◌, ℕ, Option, List, [], ◌∷◌, ◌++
 use Rattle.std.specs.List.{sum_by, flat_map}
 use Rattle.indexmap.specs.IndexMap.{get}
 use Rattle.ut_logic.specs.Text.{text_eq}
-use Rattle.cpp_read.specs.declared.condition.Cond.{Cond}
-use Rattle.cpp_read.specs.declared.condition.Cond.TheOpen.{Cond-F}
-use Rattle.cpp_read.specs.declared.condition.Cond.TheFolds.{fold-Cond}
-use Rattle.cpp_read.specs.declared.directive.Directive.{Directive}
-use Rattle.cpp_read.specs.declared.directive.What.{What}
-use Rattle.cpp_read.specs.declared.directive.What.TheVariants.{If, Elif, Else, Endif, Define, Undef}
+use Rattle.cpp_directives.specs.declared.condition.Cond.{Cond}
+use Rattle.cpp_directives.specs.declared.condition.Cond.TheOpen.{Cond-F}
+use Rattle.cpp_directives.specs.declared.condition.Cond.TheFolds.{fold-Cond}
+use Rattle.cpp_directives.specs.declared.directive.Directive.{Directive}
+use Rattle.cpp_directives.specs.declared.directive.What.{What}
+use Rattle.cpp_directives.specs.declared.directive.What.TheVariants.{If, Elif, Else, Endif, Define, Undef}
 use Rattle.cpp_blocks.specs.declared.pieces.PieceOf.{PieceOf}
 use Rattle.cpp_blocks.specs.PieceIdentity.{piece_eq}
 use Rattle.cpp_blocks.specs.Mentions.{firsts}

@@ -3,17 +3,17 @@ ghost use Rattle.std.specs.List.{position_or_len};
 ghost use Rattle.ut_logic.specs.Text.{text_eq};
 ghost use Rattle.cpp_blocks.specs.PieceIdentity.{piece_eq};
 ghost use Rattle.std.specs.List.Sorted.{IsPartitionPoint};
-ghost use Rattle.cpp_read.specs.declared.directive.Directive as declared;
+ghost use Rattle.cpp_directives.specs.declared.directive.Directive as declared;
 ghost use Rattle.cpp_blocks.specs.Blocks as spec;
 ghost use Rattle.cpp_blocks.specs.Mentions as mention;
 ghost use Rattle.cpp_blocks.specs.Nesting as lines;
 ghost use Rattle.cpp_blocks.specs.Turns as turn;
-ghost use Rattle.cpp_blocks.specs.WellFormed.{IsWellFormed, lines_rise};
+ghost use Rattle.cpp_directives.specs.WellFormed.{IsWellFormed, lines_rise};
 
 use crate::mentions::{names_of, pieces_of};
 use crate::nesting::Nesting;
 use crate::pieces::PieceOf;
-use cpp_read::Directive;
+use cpp_directives::Directive;
 use indexmap::IndexSet;
 use std::alloc::{AllocError, Global};
 use std::marker::Model;
@@ -35,9 +35,9 @@ pub struct Blocks {
 
 impl Model for Blocks {
     ghost use Rattle.std.specs.Prelude.{List};
-    ghost use Rattle.cpp_read.specs.declared.directive.Directive.{Directive};
+    ghost use Rattle.cpp_directives.specs.declared.directive.Directive.{Directive};
     ghost use Rattle.cpp_blocks.specs.Kept.{IsKept};
-    ghost use Rattle.cpp_read.specs.contracts.condition.Cond as e;
+    ghost use Rattle.cpp_directives.specs.contracts.condition.Cond as e;
     ghost use Rattle.std.specs.Coded.{codes};
 
     ghost Value = { List Directive };

@@ -9,7 +9,7 @@ ghost use Rattle.cpp_blocks.specs.Mentions.{names_in};
 use crate::blocks::Blocks;
 use crate::pieces::PieceOf;
 use crate::turns::Turns;
-use cpp_read::Cond;
+use cpp_directives::Cond;
 use std::alloc::{AllocError, Global};
 use ut_logic::{Formula, Item, Node, Text, all_of, any_of, not_of};
 

@@ -8,7 +8,7 @@ ghost use Rattle.cpp_blocks.specs.Formulas.{source_of};
 
 use crate::blocks::Blocks;
 use crate::conditions::{defined_item, state_node, true_item};
-use cpp_read::Gives;
+use cpp_directives::Gives;
 use std::alloc::{AllocError, Global};
 use ut_logic::{Definition, Fact, Formula, Item, Node, Sequence, Text, all_of, any_of, not_of};
 

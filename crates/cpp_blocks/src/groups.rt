@@ -3,7 +3,7 @@ ghost use Rattle.std.specs.Option.{option_copied};
 ghost use Rattle.cpp_blocks.specs.Steps as spec;
 ghost use Rattle.cpp_blocks.specs.Facts.{at_first};
 
-use cpp_read::What;
+use cpp_directives::What;
 use sqlite_items::Items;
 use std::alloc::{AllocError, Global};
 use std::marker::Model;

@@ -22,11 +22,10 @@ mod source_facts;
 mod starts;
 mod state;
 mod turns;
-mod well_formed;
 
 pub use blocks::Blocks;
 pub use pieces::PieceOf;
 pub use source_facts::block_facts;
 pub use starts::{BuiltOf, StartOf};
 pub use state::MacroState;
-pub use well_formed::is_well_formed;
+pub use cpp_directives::is_well_formed;

@@ -10,7 +10,7 @@ ghost use Rattle.cpp_blocks.specs.Counted.{piece_turn};
 
 use crate::pieces::PieceOf;
 use crate::turns::Turns;
-use cpp_read::{Cond, Directive, What};
+use cpp_directives::{Cond, Directive, What};
 use indexmap::IndexSet;
 use std::alloc::{AllocError, Global};
 use ut_logic::Text;

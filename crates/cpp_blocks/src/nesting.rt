@@ -2,7 +2,7 @@ ghost use Rattle.std.specs.Prelude.{◌≡◌, ◌++◌, ◌∷◌, IfOk, OnOk};
 ghost use Rattle.cpp_blocks.specs.Blocks.{innermost};
 ghost use Rattle.cpp_blocks.specs.Nested as spec;
 
-use cpp_read::{Directive, What};
+use cpp_directives::{Directive, What};
 use std::alloc::{AllocError, Global};
 use std::marker::Model;
 

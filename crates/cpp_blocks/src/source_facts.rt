@@ -13,7 +13,7 @@ use crate::gathered::Gathered;
 use crate::groups::{Groups, OpenGroups};
 use crate::starts::{BuiltOf, StartOf};
 use crate::turns::Turns;
-use cpp_read::{Cond, Directive, What};
+use cpp_directives::{Cond, Directive, What};
 use std::alloc::{AllocError, Global};
 use ut_logic::{Fact, Facts, Formula, Node};
 

@@ -7,7 +7,7 @@ ghost use Rattle.cpp_blocks.specs.Pieces.{names_of_piece};
 ghost use Rattle.cpp_blocks.specs.Turns.{touched_at};
 
 use crate::piece_names::piece_names;
-use cpp_read::What;
+use cpp_directives::What;
 use indexmap::{IndexMap, IndexSet};
 use std::alloc::{AllocError, Global};
 use ut_logic::Text;

@@ -1,9 +1,10 @@
 ghost use Rattle.std.specs.Prelude.{◌≡◌, IfOk, length};
 ghost use Rattle.cpp_blocks.specs.Facts.{AreStarts};
-ghost use Rattle.cpp_blocks.specs.WellFormed.{IsWellFormed};
+ghost use Rattle.cpp_directives.specs.WellFormed.{IsWellFormed};
 
 use cpp_blocks::{Blocks, BuiltOf, StartOf, block_facts, is_well_formed};
-use cpp_read::{Cond, Directive, Gives, What, directives};
+use cpp_directives::{Cond, Directive, Gives, What};
+use cpp_read::directives;
 use sqlite_items::{Boxed, Items};
 use std::alloc::{AllocError, Global};
 use std::fmt::Write;

@@ -4,8 +4,8 @@ use Rattle.std.specs.Prelude.{Result, Ok, Err}
 use Rattle.std.proofs.lemmas.Bool.{false≢true, eqb-true}
 use Rattle.cpp_read.specs.declared.token.Token.{Token}
 use Rattle.cpp_read.specs.declared.depth.Joint.{Joint}
-use Rattle.cpp_read.specs.declared.condition.Cond.{Cond}
-use Rattle.cpp_read.specs.declared.bad.CppBad.{CppBad}
+use Rattle.cpp_directives.specs.declared.condition.Cond.{Cond}
+use Rattle.cpp_directives.specs.declared.bad.CppBad.{CppBad}
 use Rattle.cpp_read.specs.Depth.{parts_at, parts, before_at, joins, deeper}
 use Rattle.cpp_read.specs.Conditions.{Reader, each, negated}
 use Rattle.cpp_read.specs.ConditionSteps.{conds_behind}

@@ -1,10 +1,10 @@
 -- The line that is named: an induction on the lines, from any number and any open chains.
 use Rattle.std.proofs.Common.{◌≡◌, ℕ, suc, ◌+◌, ◌-◌, ◌<◌, ◌⊎◌, inl, inr, ◌∷◌, ◌++◌, List, [], Bool, true, false, length, take, codes, refl, ap, sym, ◌∙◌, arith}
 use Rattle.std.specs.Prelude.{Result, Ok, Err}
-use Rattle.cpp_read.specs.declared.bad.CppBad.{CppBad}
-use Rattle.cpp_read.specs.declared.bad.CppBad.TheVariants.{NotYet}
-use Rattle.cpp_read.specs.declared.directive.What.TheVariants.{Endif}
-use Rattle.cpp_read.specs.declared.directive.Directive.{Directive}
+use Rattle.cpp_directives.specs.declared.bad.CppBad.{CppBad}
+use Rattle.cpp_directives.specs.declared.bad.CppBad.TheVariants.{NotYet}
+use Rattle.cpp_directives.specs.declared.directive.What.TheVariants.{Endif}
+use Rattle.cpp_directives.specs.declared.directive.Directive.{Directive}
 use Rattle.cpp_read.specs.declared.first_lines.FirstLine.{FirstLine}
 use Rattle.cpp_read.specs.declared.first_lines.FirstLine.TheVariants.{Opens, Closes, Plain, Other}
 use Rattle.cpp_read.specs.Lines.{lines_of}

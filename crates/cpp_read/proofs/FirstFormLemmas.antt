@@ -1,8 +1,8 @@
 -- Laws of the first form: one more line is read.
 use Rattle.std.proofs.Common.{◌≡◌, ℕ, ◌+◌, ◌∷◌, ◌++◌, List, append_assoc, refl, ap, sym, ◌∙◌}
 use Rattle.std.specs.Prelude.{Result, Ok, Err}
-use Rattle.cpp_read.specs.declared.bad.CppBad.{CppBad}
-use Rattle.cpp_read.specs.declared.directive.Directive.{Directive}
+use Rattle.cpp_directives.specs.declared.bad.CppBad.{CppBad}
+use Rattle.cpp_directives.specs.declared.directive.Directive.{Directive}
 use Rattle.cpp_read.specs.FirstForm.{Chains, first_line, step, read_lines}
 use Rattle.cpp_read.specs.FirstReading.{behind}
 

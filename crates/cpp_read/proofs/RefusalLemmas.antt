@@ -1,8 +1,8 @@
 -- A refusal of a part is that of the whole.
 use Rattle.std.proofs.Common.{◌≡◌}
 use Rattle.std.specs.Prelude.{Result, Err}
-use Rattle.cpp_read.specs.declared.bad.CppBad.{CppBad}
-use Rattle.cpp_read.specs.declared.bad.CppBad.TheVariants.{NotYet, Unbalanced, ElseTwice, Depth, TooMany, NoName, Condition, Unclosed, Oom}
+use Rattle.cpp_directives.specs.declared.bad.CppBad.{CppBad}
+use Rattle.cpp_directives.specs.declared.bad.CppBad.TheVariants.{NotYet, Unbalanced, ElseTwice, Depth, TooMany, NoName, Condition, Unclosed, Oom}
 use Rattle.cpp_read.specs.Refusals.{Fails}
 
 pub fails_by : {Y Z : Type 0} (e : CppBad) (read : Result Y CppBad) (whole : Result Z CppBad) → ((k : CppBad) → read ≡ Err k → whole ≡ Err k) → Fails e read → Fails e whole

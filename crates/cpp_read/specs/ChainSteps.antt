@@ -2,7 +2,7 @@
 -- This project's own; no contract of a public call rests on it.
 use Rattle.std.specs.Prelude.{◌≡◌, Result, Ok, Err, List, []}
 use Rattle.cpp_read.specs.declared.chains.Chain.{Chain}
-use Rattle.cpp_read.specs.declared.bad.CppBad.{CppBad}
+use Rattle.cpp_directives.specs.declared.bad.CppBad.{CppBad}
 use Rattle.cpp_read.specs.Chains.{Blocks, at_end}
 use Rattle.cpp_read.specs.Refusals.{Fails}
 

@@ -4,8 +4,8 @@ use Rattle.std.specs.Prelude.{ℕ, ◌+◌, Bool, true, false, ◌||◌, nat_le,
 use Rattle.cpp_read.specs.declared.chains.Chain.{Chain}
 use Rattle.cpp_read.specs.declared.words.Word.{Word}
 use Rattle.cpp_read.specs.declared.words.Word.TheVariants.{If, Elif, Ifdef, Ifndef, Elifdef, Else, Endif, Define, Undef, Other}
-use Rattle.cpp_read.specs.declared.bad.CppBad.{CppBad}
-use Rattle.cpp_read.specs.declared.bad.CppBad.TheVariants.{NotYet, Unbalanced, ElseTwice, Depth, TooMany, Unclosed}
+use Rattle.cpp_directives.specs.declared.bad.CppBad.{CppBad}
+use Rattle.cpp_directives.specs.declared.bad.CppBad.TheVariants.{NotYet, Unbalanced, ElseTwice, Depth, TooMany, Unclosed}
 
 -- the open chains, innermost first, and the blocks so far
 pub record Blocks : Type 0 where

@@ -2,9 +2,9 @@
 -- list is readable. This project's rule; `conditions_follow_rules` says that this reader is one of them.
 use Rattle.std.specs.Prelude.{ℕ, suc, zero, length, Result, Err, List, if◌then◌else◌}
 use Rattle.cpp_read.specs.declared.token.Token.{Token}
-use Rattle.cpp_read.specs.declared.condition.Cond.{Cond}
-use Rattle.cpp_read.specs.declared.bad.CppBad.{CppBad}
-use Rattle.cpp_read.specs.declared.bad.CppBad.TheVariants.{Condition}
+use Rattle.cpp_directives.specs.declared.condition.Cond.{Cond}
+use Rattle.cpp_directives.specs.declared.bad.CppBad.{CppBad}
+use Rattle.cpp_directives.specs.declared.bad.CppBad.TheVariants.{Condition}
 use Rattle.cpp_read.specs.Conditions.{Reader, by_rules, is_readable}
 
 -- n steps down are enough for lists of fewer than n tokens

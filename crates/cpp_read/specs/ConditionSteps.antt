@@ -2,8 +2,8 @@
 -- This project's own; no contract of a public call rests on it.
 use Rattle.std.specs.Prelude.{ℕ, ◌++◌, Bool, true, false, Result, Ok, List, [], ◌∷◌}
 use Rattle.cpp_read.specs.declared.token.Token.{Token}
-use Rattle.cpp_read.specs.declared.condition.Cond.{Cond}
-use Rattle.cpp_read.specs.declared.bad.CppBad.{CppBad}
+use Rattle.cpp_directives.specs.declared.condition.Cond.{Cond}
+use Rattle.cpp_directives.specs.declared.bad.CppBad.{CppBad}
 use Rattle.cpp_read.specs.Refusals.{◌>>=◌}
 use Rattle.cpp_read.specs.Operands.{piece_text}
 

@@ -4,13 +4,13 @@ use Rattle.std.specs.Prelude.{◌≡◌, ℕ, ◌-◌, Bool, true, false, not, �
 use Rattle.std.specs.List.{list_all}
 use Rattle.cpp_read.specs.declared.token.Token.{Token}
 use Rattle.cpp_read.specs.declared.token.Token.TheVariants.{Ident, Number, Quoted, Sign}
-use Rattle.cpp_read.specs.declared.condition.Cond.{Cond}
-use Rattle.cpp_read.specs.declared.condition.Cond.TheVariants as cond
+use Rattle.cpp_directives.specs.declared.condition.Cond.{Cond}
+use Rattle.cpp_directives.specs.declared.condition.Cond.TheVariants as cond
 use Rattle.cpp_read.specs.declared.number.Whole.{Whole}
 use Rattle.cpp_read.specs.declared.number.Whole.TheVariants as number
 use Rattle.cpp_read.specs.declared.depth.Joint.TheVariants as joint
-use Rattle.cpp_read.specs.declared.bad.CppBad.{CppBad}
-use Rattle.cpp_read.specs.declared.bad.CppBad.TheVariants.{Condition}
+use Rattle.cpp_directives.specs.declared.bad.CppBad.{CppBad}
+use Rattle.cpp_directives.specs.declared.bad.CppBad.TheVariants.{Condition}
 use Rattle.cpp_read.specs.Numbers.{whole}
 use Rattle.cpp_read.specs.Depth.{parts, has, is_group, is_balanced}
 use Rattle.cpp_read.specs.SignsOver.{outermost, signs_fit}

@@ -1,9 +1,9 @@
 -- What the readers of directives promise each other.
 -- This project's own; no contract of a public call rests on it.
 use Rattle.std.specs.Prelude.{◌≡◌, ◌++◌, Option, option_to_list, Result, Ok, Err, List}
-use Rattle.cpp_read.specs.declared.bad.CppBad.{CppBad}
-use Rattle.cpp_read.specs.declared.directive.What.{What}
-use Rattle.cpp_read.specs.declared.directive.Directive.{Directive}
+use Rattle.cpp_directives.specs.declared.bad.CppBad.{CppBad}
+use Rattle.cpp_directives.specs.declared.directive.What.{What}
+use Rattle.cpp_directives.specs.declared.directive.Directive.{Directive}
 use Rattle.cpp_read.specs.Chains.{Blocks}
 use Rattle.cpp_read.specs.Refusals.{◌>>=◌, Fails}
 

@@ -6,15 +6,15 @@ use Rattle.cpp_read.specs.declared.words.Word.{Word}
 use Rattle.cpp_read.specs.declared.words.Word.TheVariants as word
 use Rattle.cpp_read.specs.declared.number.Whole.{Whole}
 use Rattle.cpp_read.specs.declared.number.Whole.TheVariants as number
-use Rattle.cpp_read.specs.declared.condition.Cond.{Cond}
-use Rattle.cpp_read.specs.declared.condition.Cond.TheVariants.{Defined, Neg}
-use Rattle.cpp_read.specs.declared.directive.Gives.{Gives}
-use Rattle.cpp_read.specs.declared.directive.Gives.TheVariants.{Zero, Nonzero, Free}
-use Rattle.cpp_read.specs.declared.directive.What.{What}
-use Rattle.cpp_read.specs.declared.directive.What.TheVariants.{If, Elif, Else, Endif, Define, Undef}
-use Rattle.cpp_read.specs.declared.directive.Directive.{Directive}
-use Rattle.cpp_read.specs.declared.bad.CppBad.{CppBad}
-use Rattle.cpp_read.specs.declared.bad.CppBad.TheVariants.{NoName}
+use Rattle.cpp_directives.specs.declared.condition.Cond.{Cond}
+use Rattle.cpp_directives.specs.declared.condition.Cond.TheVariants.{Defined, Neg}
+use Rattle.cpp_directives.specs.declared.directive.Gives.{Gives}
+use Rattle.cpp_directives.specs.declared.directive.Gives.TheVariants.{Zero, Nonzero, Free}
+use Rattle.cpp_directives.specs.declared.directive.What.{What}
+use Rattle.cpp_directives.specs.declared.directive.What.TheVariants.{If, Elif, Else, Endif, Define, Undef}
+use Rattle.cpp_directives.specs.declared.directive.Directive.{Directive}
+use Rattle.cpp_directives.specs.declared.bad.CppBad.{CppBad}
+use Rattle.cpp_directives.specs.declared.bad.CppBad.TheVariants.{NoName}
 use Rattle.cpp_read.specs.Splices.{letters}
 use Rattle.cpp_read.specs.Comments.{plain}
 use Rattle.cpp_read.specs.DirectiveLines.{Marked, marked_lines}

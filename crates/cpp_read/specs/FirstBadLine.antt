@@ -1,8 +1,8 @@
 -- Which line is named where a source is not of the first form: the first with which no text of the form begins, or
 -- the opener of the innermost chain that is open at the end. This project's rule.
 use Rattle.std.specs.Prelude.{◌≡◌, ℕ, ◌+◌, ◌-◌, ◌≤◌, ◌⊎◌, ◌++◌, length, take, Result, Ok, List, [], ◌∷◌}
-use Rattle.cpp_read.specs.declared.bad.CppBad.{CppBad}
-use Rattle.cpp_read.specs.declared.directive.Directive.{Directive}
+use Rattle.cpp_directives.specs.declared.bad.CppBad.{CppBad}
+use Rattle.cpp_directives.specs.declared.directive.Directive.{Directive}
 use Rattle.cpp_read.specs.FirstForm.{Chains, no_chains, first_line, step, read_lines}
 use Rattle.cpp_read.specs.Refusals.{◌>>=◌}
 

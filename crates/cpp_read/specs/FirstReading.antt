@@ -1,8 +1,8 @@
 -- What the readers of the first form promise each other.
 -- This project's own; no contract of a public call rests on it.
 use Rattle.std.specs.Prelude.{◌≡◌, ℕ, ◌++◌, Option, option_to_list, Result, Ok, Err, List, []}
-use Rattle.cpp_read.specs.declared.bad.CppBad.{CppBad}
-use Rattle.cpp_read.specs.declared.directive.Directive.{Directive}
+use Rattle.cpp_directives.specs.declared.bad.CppBad.{CppBad}
+use Rattle.cpp_directives.specs.declared.directive.Directive.{Directive}
 use Rattle.cpp_read.specs.FirstForm.{Chains, at_end}
 use Rattle.cpp_read.specs.Refusals.{◌>>=◌, Fails}
 

@@ -5,8 +5,8 @@ use Rattle.std.specs.Prelude.{ℕ, ◌++◌, Bool, true, false, not, ◌&&◌, �
 use Rattle.std.specs.List.{prefix_len}
 use Rattle.cpp_read.specs.declared.token.Token.{Token}
 use Rattle.cpp_read.specs.declared.token.Token.TheVariants.{Ident, Number, Quoted, Sign}
-use Rattle.cpp_read.specs.declared.condition.Cond.{Cond}
-use Rattle.cpp_read.specs.declared.condition.Cond.TheVariants as cond
+use Rattle.cpp_directives.specs.declared.condition.Cond.{Cond}
+use Rattle.cpp_directives.specs.declared.condition.Cond.TheVariants as cond
 use Rattle.cpp_read.specs.declared.number.Whole.{Whole}
 use Rattle.cpp_read.specs.declared.number.Whole.TheVariants as number
 use Rattle.cpp_read.specs.Numbers.{whole}

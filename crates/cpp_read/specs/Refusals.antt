@@ -3,8 +3,8 @@
 use Rattle.std.specs.Prelude.{◌≡◌, Result, Ok, Err, List}
 use Rattle.std.specs.declared.vec.Vec.{Vec}
 use Rattle.std.specs.declared.alloc.Global.{Global}
-use Rattle.cpp_read.specs.declared.bad.CppBad.{CppBad}
-use Rattle.cpp_read.specs.declared.bad.CppBad.TheVariants.{NotYet, Unbalanced, ElseTwice, Depth, TooMany, NoName, Condition, Unclosed, Oom}
+use Rattle.cpp_directives.specs.declared.bad.CppBad.{CppBad}
+use Rattle.cpp_directives.specs.declared.bad.CppBad.TheVariants.{NotYet, Unbalanced, ElseTwice, Depth, TooMany, NoName, Condition, Unclosed, Oom}
 
 -- what is read next, unless the first part is refused
 infixl 10 ◌>>=◌

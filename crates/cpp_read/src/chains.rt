@@ -2,7 +2,7 @@ ghost use Rattle.std.specs.Prelude.{◌≡◌};
 ghost use Rattle.cpp_read.specs.Chains as spec;
 ghost use Rattle.cpp_read.specs.ChainSteps.{Steps, Ends};
 
-use crate::bad::CppBad;
+use cpp_directives::CppBad;
 use crate::words::Word;
 use std::alloc::Global;
 use std::marker::Model;

@@ -3,9 +3,10 @@ ghost use Rattle.cpp_read.specs.FirstForm as spec;
 ghost use Rattle.cpp_read.specs.Refusals.{AnswersList};
 ghost use Rattle.cpp_read.specs.FirstReading.{Reads, Ends};
 
-use crate::bad::CppBad;
-use crate::condition::Cond;
-use crate::directive::{Directive, What, keep};
+use cpp_directives::CppBad;
+use cpp_directives::Cond;
+use crate::directive::keep;
+use cpp_directives::{Directive, What};
 use crate::first_lines::{FirstLine, first_line};
 use crate::lines::split_line;
 use std::alloc::Global;

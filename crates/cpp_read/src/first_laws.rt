@@ -1,6 +1,6 @@
 ghost use Rattle.std.specs.Prelude.{◌≡◌, ℕ, List, Err};
-ghost use Rattle.cpp_read.specs.declared.bad.CppBad.{CppBad};
-ghost use Rattle.cpp_read.specs.declared.bad.CppBad.TheVariants.{NotYet};
+ghost use Rattle.cpp_directives.specs.declared.bad.CppBad.{CppBad};
+ghost use Rattle.cpp_directives.specs.declared.bad.CppBad.TheVariants.{NotYet};
 ghost use Rattle.cpp_read.specs.Lines.{lines_of};
 ghost use Rattle.cpp_read.specs.FirstForm.{first_directives_of};
 ghost use Rattle.cpp_read.specs.FirstBadLine.{IsNamed};

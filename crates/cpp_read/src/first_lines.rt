@@ -3,7 +3,7 @@ ghost use Rattle.std.specs.List.{list_any, list_all};
 ghost use Rattle.cpp_read.specs.Names as names;
 ghost use Rattle.cpp_read.specs.FirstForm as spec;
 
-use crate::condition::Cond;
+use cpp_directives::Cond;
 use sqlite_items::Boxed;
 use std::alloc::{AllocError, Global};
 use ut_logic::Text;

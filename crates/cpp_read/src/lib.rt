@@ -15,9 +15,7 @@
 //! just the first bad line.
 #![tactic(auto)]
 
-mod bad;
 mod chains;
-mod condition;
 mod cursor;
 mod depth;
 mod directive;
@@ -36,9 +34,7 @@ mod token;
 mod tokens;
 mod words;
 
-pub use bad::CppBad;
-pub use condition::Cond;
-pub use directive::{Directive, Gives, What};
+pub use cpp_directives::{Cond, CppBad, Directive, Gives, What};
 pub use first_form::first_directives;
 pub use first_laws::first_bad_line_is_named;
 pub use reader::{conditions_follow_rules, read_condition};

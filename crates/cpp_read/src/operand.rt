@@ -1,10 +1,10 @@
 ghost use Rattle.std.specs.Prelude.{◌≡◌, ◌≤◌, ◌∷◌, [], length, IfOk};
 ghost use Rattle.std.specs.List.{prefix_len};
-ghost use Rattle.cpp_read.specs.declared.condition.Cond.TheVariants as conds;
+ghost use Rattle.cpp_directives.specs.declared.condition.Cond.TheVariants as conds;
 ghost use Rattle.cpp_read.specs.Signs as signs;
 ghost use Rattle.cpp_read.specs.Operands as spec;
 
-use crate::condition::Cond;
+use cpp_directives::Cond;
 use crate::depth::{is_close, is_group, is_not, is_open};
 use crate::number::{Whole, read_whole};
 use crate::token::Token;

@@ -7,8 +7,8 @@ ghost use Rattle.cpp_read.specs.Conditions.{Reader, Reads, single, negated, each
 ghost use Rattle.cpp_read.specs.Condition.{ruled_condition, condition};
 ghost use Rattle.cpp_read.specs.Refusals.{Answers, AnswersList};
 
-use crate::bad::CppBad;
-use crate::condition::Cond;
+use cpp_directives::CppBad;
+use cpp_directives::Cond;
 use crate::depth::{Joint, before, is_balanced, is_group};
 use crate::number::{Whole, read_whole};
 use crate::operand::{is_negation, leaf, piece};

@@ -3,9 +3,10 @@ ghost use Rattle.cpp_read.specs.Directives as spec;
 ghost use Rattle.cpp_read.specs.DirectiveSteps.{ReadsLine};
 ghost use Rattle.cpp_read.specs.Refusals.{AnswersList};
 
-use crate::bad::CppBad;
+use cpp_directives::CppBad;
 use crate::chains::OpenChains;
-use crate::directive::{Directive, keep};
+use crate::directive::keep;
+use cpp_directives::Directive;
 use crate::plain::{Found, Plain};
 use crate::statement::what_of;
 use crate::words::{split_name, unblanked, word_of};

@@ -5,9 +5,9 @@ ghost use Rattle.cpp_read.specs.Condition.{condition};
 ghost use Rattle.cpp_read.specs.DirectiveSteps.{Says};
 ghost use Rattle.cpp_read.specs.Refusals.{Answers};
 
-use crate::bad::CppBad;
-use crate::condition::Cond;
-use crate::directive::{Gives, What};
+use cpp_directives::CppBad;
+use cpp_directives::Cond;
+use cpp_directives::{Gives, What};
 use crate::number::{Whole, read_whole};
 use crate::reader::read_condition;
 use crate::tokens::{next_token, tokens_of};

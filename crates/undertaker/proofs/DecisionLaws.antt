@@ -5,7 +5,7 @@ use Rattle.std.proofs.lemmas.List.Quantifiers.{position-Some}
 use Rattle.std.specs.List.{list_all}
 use Rattle.std.specs.Option.{option_and_then, is_some}
 use Rattle.ut_logic.specs.Text.{text_eq}
-use Rattle.cpp_read.specs.declared.directive.Directive.{Directive}
+use Rattle.cpp_directives.specs.declared.directive.Directive.{Directive}
 use Rattle.kconf_tree.specs.Shape.{Shape}
 use Rattle.ut_verdict.specs.declared.word.Word.{Word}
 use Rattle.ut_verdict.specs.On.{config_name, module_name, module_of}

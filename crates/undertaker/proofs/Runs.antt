@@ -4,14 +4,14 @@ use Rattle.std.proofs.Common.{length-append}
 use Rattle.std.proofs.Math.ListN.{get_or-append}
 use Rattle.std.proofs.Math.Seq.{get_or-append_seam}
 use Rattle.std.specs.List.{list_all}
-use Rattle.cpp_read.specs.declared.condition.Cond.{Cond, out-Cond}
-use Rattle.cpp_read.specs.declared.condition.Cond.TheVariants.{Defined, Neg}
-use Rattle.cpp_read.specs.declared.condition.Cond.TheOpen.{Cond-F}
-use Rattle.cpp_read.specs.declared.condition.Cond.TheFolds.{fold-roll-Cond}
-use Rattle.cpp_read.specs.declared.condition.Cond.TheViews.{roll-Cond, the_lemmas}
-use Rattle.cpp_read.specs.declared.directive.Directive.{Directive}
-use Rattle.cpp_read.specs.declared.directive.What.{What}
-use Rattle.cpp_read.specs.declared.directive.What.TheVariants.{If, Endif}
+use Rattle.cpp_directives.specs.declared.condition.Cond.{Cond, out-Cond}
+use Rattle.cpp_directives.specs.declared.condition.Cond.TheVariants.{Defined, Neg}
+use Rattle.cpp_directives.specs.declared.condition.Cond.TheOpen.{Cond-F}
+use Rattle.cpp_directives.specs.declared.condition.Cond.TheFolds.{fold-roll-Cond}
+use Rattle.cpp_directives.specs.declared.condition.Cond.TheViews.{roll-Cond, the_lemmas}
+use Rattle.cpp_directives.specs.declared.directive.Directive.{Directive}
+use Rattle.cpp_directives.specs.declared.directive.What.{What}
+use Rattle.cpp_directives.specs.declared.directive.What.TheVariants.{If, Endif}
 use Rattle.cpp_blocks.specs.declared.state.MacroState.{MacroState}
 use Rattle.cpp_blocks.specs.Run.{Start, Running, OpenChain, is_defined, holds, cond_step, step, run_from, opened, closed}
 use Rattle.cpp_blocks.specs.Blocks.{innermost, outside, parents_from}

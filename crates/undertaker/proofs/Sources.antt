@@ -2,11 +2,11 @@
 use Rattle.std.proofs.Common.{◌≡◌, ℕ, ◌+◌, Bool, true, false, cond, refl, ap, subst, List, [], ◌∷◌, ◌++◌, drop, bytes_eq, codes, Result, Ok, Err, inl, inr}
 use Rattle.std.specs.Prelude.{if◌then◌else◌}
 use Rattle.std.specs.List.{list_any}
-use Rattle.cpp_read.specs.declared.bad.CppBad.{CppBad}
-use Rattle.cpp_read.specs.declared.bad.CppBad.TheVariants.{NotYet}
-use Rattle.cpp_read.specs.declared.condition.Cond.TheVariants.{Defined, Neg}
-use Rattle.cpp_read.specs.declared.directive.Directive.{Directive}
-use Rattle.cpp_read.specs.declared.directive.What.TheVariants.{If}
+use Rattle.cpp_directives.specs.declared.bad.CppBad.{CppBad}
+use Rattle.cpp_directives.specs.declared.bad.CppBad.TheVariants.{NotYet}
+use Rattle.cpp_directives.specs.declared.condition.Cond.TheVariants.{Defined, Neg}
+use Rattle.cpp_directives.specs.declared.directive.Directive.{Directive}
+use Rattle.cpp_directives.specs.declared.directive.What.TheVariants.{If}
 use Rattle.cpp_read.specs.declared.first_lines.FirstLine.{FirstLine}
 use Rattle.cpp_read.specs.declared.first_lines.FirstLine.TheVariants.{Opens, Closes, Plain, Other}
 use Rattle.cpp_read.specs.Lines.{lines_of}

@@ -7,12 +7,12 @@ use Rattle.std.proofs.lemmas.Bool.{cases_lt}
 use Rattle.std.proofs.lemmas.Cmp.{nat_list_eq_equiv}
 use Rattle.std.specs.List.{list_any}
 use Rattle.ut_logic.specs.Text.{text_eq}
-use Rattle.cpp_read.specs.declared.condition.Cond.{Cond, out-Cond}
-use Rattle.cpp_read.specs.declared.condition.Cond.TheOpen.{Cond-F}
-use Rattle.cpp_read.specs.declared.condition.Cond.TheVariants.{Defined, Neg}
-use Rattle.cpp_read.specs.declared.condition.Cond.TheViews.{the_lemmas}
-use Rattle.cpp_read.specs.declared.directive.Directive.{Directive}
-use Rattle.cpp_read.specs.declared.directive.What.TheVariants.{If, Endif}
+use Rattle.cpp_directives.specs.declared.condition.Cond.{Cond, out-Cond}
+use Rattle.cpp_directives.specs.declared.condition.Cond.TheOpen.{Cond-F}
+use Rattle.cpp_directives.specs.declared.condition.Cond.TheVariants.{Defined, Neg}
+use Rattle.cpp_directives.specs.declared.condition.Cond.TheViews.{the_lemmas}
+use Rattle.cpp_directives.specs.declared.directive.Directive.{Directive}
+use Rattle.cpp_directives.specs.declared.directive.What.TheVariants.{If, Endif}
 use Rattle.undertaker.specs.declared.wishes.Wish.{Wish}
 use Rattle.undertaker.specs.declared.steps.Step.{Step}
 use Rattle.undertaker.specs.declared.steps.Step.TheVariants.{Opens, Closes}

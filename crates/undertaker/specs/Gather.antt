@@ -8,8 +8,8 @@ use Rattle.ut_base.specs.declared.meter.TakeBad.TheVariants as take
 use Rattle.kconf_parse.specs.declared.bad.KconfBad.{KconfBad}
 use Rattle.kconf_parse.specs.declared.bad.KconfBad.TheVariants as kconf
 use Rattle.kconf_entries.specs.declared.entries.Entries.{Entries}
-use Rattle.cpp_read.specs.declared.bad.CppBad.{CppBad}
-use Rattle.cpp_read.specs.declared.bad.CppBad.TheVariants as cpp
+use Rattle.cpp_directives.specs.declared.bad.CppBad.{CppBad}
+use Rattle.cpp_directives.specs.declared.bad.CppBad.TheVariants as cpp
 use Rattle.undertaker.specs.Outcome.{Refusal, usage, refused, missing, limit, Texts, taken, entries_of}
 use Rattle.undertaker.specs.Refusals.{bad_status}
 use Rattle.undertaker.specs.Written.{IsText}

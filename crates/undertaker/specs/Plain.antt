@@ -1,13 +1,13 @@
 -- The conditions of sources of the first form: a name that is defined, or that isn't.
 use Rattle.std.specs.Prelude.{◌≡◌, ◌⊎◌, ℕ, Bool, true, false, List, [], ◌∷◌, Option, None, Some, Ok, if◌then◌else◌}
 use Rattle.cpp_read.specs.FirstForm.{first_directives_of}
-use Rattle.cpp_read.specs.declared.directive.Directive.{Directive}
-use Rattle.cpp_read.specs.declared.directive.What.{What}
-use Rattle.cpp_read.specs.declared.directive.What.TheVariants.{If, Endif}
-use Rattle.cpp_read.specs.declared.condition.Cond.{Cond, out-Cond}
-use Rattle.cpp_read.specs.declared.condition.Cond.TheVariants.{Defined, Neg}
+use Rattle.cpp_directives.specs.declared.directive.Directive.{Directive}
+use Rattle.cpp_directives.specs.declared.directive.What.{What}
+use Rattle.cpp_directives.specs.declared.directive.What.TheVariants.{If, Endif}
+use Rattle.cpp_directives.specs.declared.condition.Cond.{Cond, out-Cond}
+use Rattle.cpp_directives.specs.declared.condition.Cond.TheVariants.{Defined, Neg}
 use Rattle.undertaker.specs.Names.{with_name}
-use Rattle.cpp_read.specs.declared.condition.Cond.TheOpen.{Cond-F}
+use Rattle.cpp_directives.specs.declared.condition.Cond.TheOpen.{Cond-F}
 
 -- `defined X`, or its negation
 abbrev pub cond_of : List ℕ → Bool → Cond

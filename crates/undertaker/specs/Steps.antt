@@ -1,8 +1,8 @@
 -- The directives of a source without macro lines as steps, and the wishes of its blocks: each block asks what
 -- the blocks round it ask and its own condition.
 use Rattle.std.specs.Prelude.{◌≡◌, ℕ, ◌<◌, List, [], ◌∷◌, length}
-use Rattle.cpp_read.specs.declared.directive.Directive.{Directive}
-use Rattle.cpp_read.specs.declared.directive.What.TheVariants.{If, Endif}
+use Rattle.cpp_directives.specs.declared.directive.Directive.{Directive}
+use Rattle.cpp_directives.specs.declared.directive.What.TheVariants.{If, Endif}
 use Rattle.undertaker.specs.declared.wishes.Wish.{Wish}
 use Rattle.undertaker.specs.declared.steps.Step.{Step}
 use Rattle.undertaker.specs.declared.steps.Step.TheVariants.{Opens, Closes}

@@ -5,8 +5,8 @@ use Rattle.std.specs.FinMap.{get}
 use Rattle.ut_base.specs.Outside.{Held}
 use Rattle.kconf_parse.specs.FirstBadLine as kconf
 use Rattle.kconf_parse.specs.Lines as kconf_lines
-use Rattle.cpp_read.specs.declared.bad.CppBad.TheVariants.{NotYet}
-use Rattle.cpp_read.specs.declared.directive.Directive.{Directive}
+use Rattle.cpp_directives.specs.declared.bad.CppBad.TheVariants.{NotYet}
+use Rattle.cpp_directives.specs.declared.directive.Directive.{Directive}
 use Rattle.cpp_read.specs.FirstBadLine as cpp
 use Rattle.cpp_read.specs.Lines as cpp_lines
 use Rattle.cpp_blocks.specs.Blocks.{parent_of}

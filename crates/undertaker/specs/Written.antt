@@ -1,8 +1,8 @@
 -- The text that a run writes: the report on the one source, with every question decided.
 -- Rule: this project's own; the verdicts are those of the EuroSys 2011 paper on Undertaker.
 use Rattle.std.specs.Prelude.{◌≡◌, ℕ, Bool, false, List, [], ◌∷◌, Result}
-use Rattle.cpp_read.specs.declared.bad.CppBad.{CppBad}
-use Rattle.cpp_read.specs.declared.directive.Directive.{Directive}
+use Rattle.cpp_directives.specs.declared.bad.CppBad.{CppBad}
+use Rattle.cpp_directives.specs.declared.directive.Directive.{Directive}
 use Rattle.kconf_tree.specs.Shape.{Shape}
 use Rattle.kconf_tree.specs.Gathered.{gathered}
 use Rattle.ut_verdict.specs.declared.question.Family.{Family}

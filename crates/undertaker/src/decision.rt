@@ -7,7 +7,7 @@ ghost use Rattle.undertaker.specs.Plain.{IsFirstSource};
 use crate::dependencies::Dependencies;
 use crate::judging::words_of_steps;
 use crate::steps::steps_of;
-use cpp_read::Directive;
+use cpp_directives::Directive;
 use kconf_entries::Entries;
 use std::alloc::{AllocError, Global};
 use ut_verdict::Word;

@@ -6,7 +6,7 @@ ghost use Rattle.undertaker.specs.Lines.{ended, lines_on};
 
 use crate::lines::Line;
 use crate::totals::Totals;
-use cpp_read::CppBad;
+use cpp_directives::CppBad;
 use itoa::Buffer;
 use std::alloc::{AllocError, Global};
 use ut_base::Name;

@@ -9,7 +9,7 @@ use crate::dependencies::Dependencies;
 use crate::macros::meaning_of;
 use crate::names::Names;
 use crate::wishes::Wish;
-use cpp_read::{Cond, Directive, What};
+use cpp_directives::{Cond, Directive, What};
 use std::alloc::{AllocError, Global};
 use ut_logic::Text;
 

@@ -3,9 +3,9 @@
 -- Rule: this project's own; the words are those of the tools of the EuroSys 2011 paper on Undertaker.
 use Rattle.std.specs.Prelude.{◌≡◌, ℕ, ◌<◌, Bool, List, [], ◌∷◌, ◌++◌, suc, Result, Ok, Err, map, length, get_or, codes, decimal}
 use Rattle.std.specs.List.{flat_map, concat}
-use Rattle.cpp_read.specs.declared.directive.Directive.{Directive}
-use Rattle.cpp_read.specs.declared.bad.CppBad.{CppBad}
-use Rattle.cpp_read.specs.declared.bad.CppBad.TheVariants as bad
+use Rattle.cpp_directives.specs.declared.directive.Directive.{Directive}
+use Rattle.cpp_directives.specs.declared.bad.CppBad.{CppBad}
+use Rattle.cpp_directives.specs.declared.bad.CppBad.TheVariants as bad
 use Rattle.cpp_blocks.specs.Blocks.{count_of}
 use Rattle.kconf_tree.specs.Shape.{Shape}
 use Rattle.ut_verdict.specs.declared.question.Family.{Family}

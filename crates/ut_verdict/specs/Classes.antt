@@ -4,7 +4,7 @@
 -- Rule: the classes of defects are those of the EuroSys 2011 paper on Undertaker; the exact families are
 -- this project's rule.
 use Rattle.std.specs.Prelude.{◌≡◌, ◌⊎◌, ℕ, Bool, true, false, not, ◌&&◌, List}
-use Rattle.cpp_read.specs.declared.directive.Directive.{Directive}
+use Rattle.cpp_directives.specs.declared.directive.Directive.{Directive}
 use Rattle.cpp_blocks.specs.Blocks.{parent_of}
 use Rattle.kconf_tree.specs.Shape.{Shape}
 use Rattle.kconf_tree.specs.Valid.{KeepsRules, IsValid}

@@ -1,7 +1,7 @@
 -- When a block is dead, undead or live, and which word a report has for it.
 -- Rule: the EuroSys 2011 paper on Undertaker (dead and undead blocks).
 use Rattle.std.specs.Prelude.{◌≡◌, ℕ, Bool, true, false, List}
-use Rattle.cpp_read.specs.declared.directive.Directive.{Directive}
+use Rattle.cpp_directives.specs.declared.directive.Directive.{Directive}
 use Rattle.cpp_blocks.specs.Blocks.{parent_of}
 use Rattle.kconf_tree.specs.Shape.{Shape}
 use Rattle.kconf_tree.specs.Valid.{IsValid}

@@ -1,9 +1,9 @@
 -- The words on the groups of one chain: behind a macro line, and where two groups ask for the same.
 use Rattle.std.proofs.Common.{◌≡◌, Bool, true, false, not, ◌&&◌, cond, refl, ap, ◌∙◌, codes}
-use Rattle.cpp_read.specs.declared.condition.Cond.TheVariants.{Defined}
+use Rattle.cpp_directives.specs.declared.condition.Cond.TheVariants.{Defined}
 use Rattle.cpp_blocks.specs.declared.state.MacroState.TheVariants.{DefinedFalse, DefinedTrue}
 use Rattle.cpp_blocks.specs.Run.{Start, is_defined, holds, opened, sets, given}
-use Rattle.cpp_read.specs.declared.directive.Gives.TheVariants.{Free}
+use Rattle.cpp_directives.specs.declared.directive.Gives.TheVariants.{Free}
 use Rattle.ut_verdict.specs.declared.question.Family.{Family}
 use Rattle.ut_verdict.specs.declared.question.Family.TheVariants as family
 use Rattle.ut_verdict.specs.declared.question.Class.TheVariants as class

@@ -1,10 +1,10 @@
 -- The truth of `defined X` and of its negation in a run.
 use Rattle.std.proofs.Common.{◌≡◌, ℕ, Bool, not, refl, ap, ◌∙◌, rules, List, [], ◌∷◌}
-use Rattle.cpp_read.specs.declared.condition.Cond.{Cond, out-Cond}
-use Rattle.cpp_read.specs.declared.condition.Cond.TheVariants.{Defined, Neg}
-use Rattle.cpp_read.specs.declared.condition.Cond.TheOpen.{Cond-F}
-use Rattle.cpp_read.specs.declared.condition.Cond.TheFolds.{fold-roll-Cond}
-use Rattle.cpp_read.specs.declared.condition.Cond.TheViews.{roll-Cond, the_lemmas}
+use Rattle.cpp_directives.specs.declared.condition.Cond.{Cond, out-Cond}
+use Rattle.cpp_directives.specs.declared.condition.Cond.TheVariants.{Defined, Neg}
+use Rattle.cpp_directives.specs.declared.condition.Cond.TheOpen.{Cond-F}
+use Rattle.cpp_directives.specs.declared.condition.Cond.TheFolds.{fold-roll-Cond}
+use Rattle.cpp_directives.specs.declared.condition.Cond.TheViews.{roll-Cond, the_lemmas}
 use Rattle.cpp_blocks.specs.Run.{Start, Running, is_defined, holds, cond_step}
 
 -- where a run begins

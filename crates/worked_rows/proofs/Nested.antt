@@ -3,7 +3,7 @@ use Rattle.std.proofs.Common.{◌≡◌, ℕ, ◌==◌, Bool, true, false, not, 
 use Rattle.ut_logic.specs.Text.{text_eq}
 use Rattle.cpp_blocks.specs.declared.state.MacroState.TheVariants.{Undefined, DefinedTrue}
 use Rattle.cpp_blocks.specs.Run.{Start, is_defined, holds, opened}
-use Rattle.cpp_read.specs.declared.condition.Cond.TheVariants.{Defined}
+use Rattle.cpp_directives.specs.declared.condition.Cond.TheVariants.{Defined}
 use Rattle.kconf_tree.specs.Shape.{Shape}
 use Rattle.kconf_tree.specs.Valid.{KeepsRules}
 use Rattle.ut_verdict.specs.declared.question.Family.{Family}

@@ -1,7 +1,7 @@
 -- At most one word on a block is right, and at most one text is the report, where each question is decided.
 use Rattle.std.proofs.Common.{◌≡◌, ℕ, ◌<◌, suc, Bool, true, false, not, ◌&&◌, refl, ap, sym, subst, ◌∙◌, arith, List, [], ◌∷◌, length, get_or, inl, inr, Ok, Err}
 use Rattle.std.proofs.lemmas.Bool.{false≢true}
-use Rattle.cpp_read.specs.declared.directive.Directive.{Directive}
+use Rattle.cpp_directives.specs.declared.directive.Directive.{Directive}
 use Rattle.cpp_blocks.specs.Blocks.{parent_of}
 use Rattle.kconf_tree.specs.Shape.{Shape}
 use Rattle.ut_verdict.specs.declared.question.Family.{Family}

@@ -1,7 +1,7 @@
 -- The reports of the rows.
 use Rattle.std.proofs.Common.{◌≡◌, ℕ, ◌<◌, zero, suc, false, refl, List, [], ◌∷◌, codes, get_or}
 use Rattle.std.specs.Fmt.{digits}
-use Rattle.cpp_read.specs.declared.directive.Directive.{Directive}
+use Rattle.cpp_directives.specs.declared.directive.Directive.{Directive}
 use Rattle.cpp_blocks.specs.Blocks.{count_of}
 use Rattle.ut_verdict.specs.declared.question.Class.TheVariants as class
 use Rattle.ut_verdict.specs.declared.word.Word.{Word}

@@ -1,11 +1,11 @@
 -- The Kconfig texts and the sources of the rows, as the entries and directives that they are read as.
 -- Rule: this project's own. That texts are read so is a law for those that the readers of the first forms take.
 use Rattle.std.specs.Prelude.{ℕ, Bool, true, false, List, [], ◌∷◌, Some, Ok, codes, suc}
-use Rattle.cpp_read.specs.declared.directive.Directive.{Directive}
-use Rattle.cpp_read.specs.declared.directive.What.{What}
-use Rattle.cpp_read.specs.declared.directive.What.TheVariants.{If, Elif, Else, Endif, Define}
-use Rattle.cpp_read.specs.declared.directive.Gives.TheVariants.{Free}
-use Rattle.cpp_read.specs.declared.condition.Cond.TheVariants.{Defined, Neg}
+use Rattle.cpp_directives.specs.declared.directive.Directive.{Directive}
+use Rattle.cpp_directives.specs.declared.directive.What.{What}
+use Rattle.cpp_directives.specs.declared.directive.What.TheVariants.{If, Elif, Else, Endif, Define}
+use Rattle.cpp_directives.specs.declared.directive.Gives.TheVariants.{Free}
+use Rattle.cpp_directives.specs.declared.condition.Cond.TheVariants.{Defined, Neg}
 use Rattle.ut_logic.specs.declared.trit.Trit.TheVariants.{Y}
 use Rattle.kconf_entries.specs.declared.expr.Expr.TheVariants.{Const}
 use Rattle.kconf_entries.specs.declared.entries.Kind.TheVariants as kind

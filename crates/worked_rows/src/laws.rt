@@ -1,6 +1,6 @@
 ghost use Rattle.std.specs.Prelude.{◌≡◌, ℕ, Bool, [], List, Ok, codes};
 ghost use Rattle.kconf_parse.specs.FirstForm.{first_tree_of};
-ghost use Rattle.cpp_read.specs.declared.directive.Directive.{Directive};
+ghost use Rattle.cpp_directives.specs.declared.directive.Directive.{Directive};
 ghost use Rattle.cpp_read.specs.FirstForm.{first_directives_of};
 ghost use Rattle.kconf_tree.specs.Shape.{Shape};
 ghost use Rattle.ut_verdict.specs.declared.question.Ask.{Ask};

@@ -1,5 +1,5 @@
 use Rattle.std.proofs.Common.{◌+◌, ◌++◌, sym, ap, subst, ◌∙◌, drop, take, arith}
-use Rattle.cpp_read.specs.declared.directive.Directive.{Directive}
+use Rattle.cpp_directives.specs.declared.directive.Directive.{Directive}
 use Rattle.cpp_blocks.specs.Counted.{IsCounted}
 use Rattle.cpp_blocks.specs.Mentions.{firsts}
 use Rattle.cpp_blocks.specs.PieceIdentity.{piece_eq}

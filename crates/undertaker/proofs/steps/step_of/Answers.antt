@@ -1,6 +1,6 @@
 use Rattle.std.proofs.Common.{◌∙◌, [], List, ℕ, get_or, sym, ap}
 use Rattle.std.proofs.lemmas.Option.{get_or_from_slice_get}
-use Rattle.cpp_read.specs.declared.directive.What.TheVariants.{If}
+use Rattle.cpp_directives.specs.declared.directive.What.TheVariants.{If}
 use Rattle.undertaker.specs.Meanings.{meaning_under}
 use Rattle.undertaker.specs.Plain.{cond_of}
 use Rattle.undertaker.proofs.StepLaws.{plain_step, plain_end}

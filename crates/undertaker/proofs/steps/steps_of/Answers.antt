@@ -1,6 +1,6 @@
 use Rattle.std.proofs.Common.{◌≡◌, ◌∙◌, ◌++◌, ◌∷◌, [], take, get_or, sym, subst, ap}
 use Rattle.std.proofs.lemmas.List.{take_more, drop_more}
-use Rattle.cpp_read.specs.declared.directive.Directive.{Directive}
+use Rattle.cpp_directives.specs.declared.directive.Directive.{Directive}
 use Rattle.undertaker.specs.Plain.{ArePlain}
 use Rattle.undertaker.proofs.StepLaws.{Numbered, numbered_step}
 use Rattle.undertaker.proofs.steps.steps_of.Goals as goal

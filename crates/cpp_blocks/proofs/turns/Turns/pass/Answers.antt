@@ -1,7 +1,7 @@
 use Rattle.std.proofs.Common.{ℕ, List, ◌++◌, sym, subst}
 use Rattle.std.specs.Prelude.{OnOk}
 use Rattle.std.proofs.lemmas.Result.{on_ok_weaker}
-use Rattle.cpp_read.specs.declared.directive.What.{What}
+use Rattle.cpp_directives.specs.declared.directive.What.{What}
 use Rattle.cpp_blocks.specs.Counted.{IsCounted}
 use Rattle.cpp_blocks.specs.Turns.{touched_at}
 use Rattle.cpp_blocks.proofs.TurnLaws.{counted}

@@ -35,7 +35,7 @@ pub enum CppBad {
 
 impl From<AllocError> for CppBad {
     ghost use Rattle.std.specs.Prelude.{◌≡◌};
-    ghost use Rattle.cpp_read.specs.declared.bad.CppBad.TheVariants.{Oom};
+    ghost use Rattle.cpp_directives.specs.declared.bad.CppBad.TheVariants.{Oom};
 
     ghost from_gives = { λ _ e. e ≡ Oom };
 
@@ -46,7 +46,7 @@ impl From<AllocError> for CppBad {
 
 impl<T: Drop> From<AllocFailed<T>> for CppBad {
     ghost use Rattle.std.specs.Prelude.{◌≡◌};
-    ghost use Rattle.cpp_read.specs.declared.bad.CppBad.TheVariants.{Oom};
+    ghost use Rattle.cpp_directives.specs.declared.bad.CppBad.TheVariants.{Oom};
 
     ghost from_gives = { λ _ e. e ≡ Oom };
 

@@ -1,9 +1,7 @@
 ghost use Rattle.std.specs.Prelude.{◌≡◌, ◌↔◌, ◌≤◌, [], IsTrue, IfOk, OnOk, nat_le};
-ghost use Rattle.cpp_blocks.specs.Blocks.{count_of};
-ghost use Rattle.cpp_blocks.specs.WellFormed as spec;
+ghost use Rattle.cpp_directives.specs.WellFormed as spec;
 
-use crate::nesting::Nesting;
-use cpp_read::{Directive, What};
+use crate::directive::{Directive, What};
 use std::alloc::{AllocError, Global};
 use std::marker::Model;
 
@@ -13,7 +11,7 @@ const MOST_GROUPS: u32 = 1024;
 
 const MOST_BLOCKS: usize = 65_535;
 
-/// An open chain: the number of its groups so far, and whether `#else` began one.
+/// An open chain: the number of its groups so far, and whether `#else` began the last one.
 #[derive(Clone, Copy)]
 pub struct Chain {
     pub groups: u32,
@@ -28,7 +26,7 @@ struct Chains {
 
 impl Model for Chains {
     ghost use Rattle.std.specs.Prelude.{List, reverse};
-    ghost use Rattle.cpp_blocks.specs.declared.well_formed.Chain.{Chain};
+    ghost use Rattle.cpp_directives.specs.declared.well_formed.Chain.{Chain};
 
     ghost Value = { List Chain };
 
@@ -86,7 +84,7 @@ impl Chains {
 
     /// Passes a directive.
     fn pass(&mut self, what: &What) -> Result<(), AllocError>
-        ensures { OnOk result (self.new ≡ spec.chains_behind self.old what.now) }
+        ensures { OnOk result (self.new ≡ spec.chains_after self.old what.now) }
     {
         match what {
             What::If(_) => {
@@ -124,7 +122,7 @@ fn do_chains_match(alloc: Global, list: &[Directive]) -> Result<bool, AllocError
     Ok(!chains.is_inside())
 }
 
-/// Whether each directive stands on a line behind that of the one before it.
+/// Whether each directive stands on a later line than the one before it.
 fn do_lines_rise(list: &[Directive]) -> bool
     ensures { result ≡ spec.lines_rise 0 list.now }
 {
@@ -138,12 +136,27 @@ fn do_lines_rise(list: &[Directive]) -> bool
     true
 }
 
-/// Whether there are no more blocks than a source may have.
-fn has_few_blocks(alloc: Global, list: &[Directive]) -> Result<bool, AllocError>
-    ensures { IfOk result (λ b. b ≡ nat_le (count_of list.now) 65535) }
+/// Whether the directive begins a block.
+fn begins_block(what: &What) -> bool
+    ensures { result ≡ spec.begins_block what.now }
 {
-    let Nesting { parents, .. } = Nesting::of(alloc, list)?;
-    Ok(parents.len() <= MOST_BLOCKS)
+    match what {
+        What::If(_) | What::Elif(_) | What::Else => true,
+        What::Endif | What::Define { .. } | What::Undef { .. } => false,
+    }
+}
+
+/// The number of directives that begin a block.
+fn block_count(list: &[Directive]) -> usize
+    ensures { result ≡ spec.block_count list.now }
+{
+    let mut count = 0;
+    for directive in list {
+        if begins_block(&directive.what) {
+            count += 1;
+        }
+    }
+    count
 }
 
 /// Whether the directives are as those of each source that is read: chains match, lines rise, and the limits
@@ -153,7 +166,7 @@ fn has_few_blocks(alloc: Global, list: &[Directive]) -> Result<bool, AllocError>
 pub fn is_well_formed(alloc: Global, list: &[Directive]) -> Result<bool, AllocError>
     ensures { IfOk result (λ b. IsTrue b ↔ spec.IsWellFormed list.now) }
 {
-    let few = has_few_blocks(alloc, list)?;
+    let few = block_count(list) <= MOST_BLOCKS;
     let matching = do_chains_match(alloc, list)?;
     Ok(matching && do_lines_rise(list) && few)
 }
