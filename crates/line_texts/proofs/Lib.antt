@@ -1,0 +1,6 @@
+pub mod GrammarLaws
+pub mod LineLaws
+pub mod ListTexts
+pub mod NameLaws
+pub mod QuotedTexts
+pub mod TailLaws
