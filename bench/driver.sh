@@ -14,7 +14,7 @@ new_driver() {
         rm -rf "$data/crates/$crate/must-fail"
         grep "^$crate:" "$here/crates.txt" >>"$data/crates.txt"
     done
-    echo 'Handles allowed: none.' >"$data/HANDLES"
+    cp "$here/HANDLES" "$data/HANDLES"
     cd "$data"
     rt new "crates/$driver" start_io >/dev/null
     (cd "crates/$driver" && rm -rf src/*.rt proofs specs stdin stdout)
