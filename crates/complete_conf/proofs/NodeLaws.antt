@@ -19,7 +19,7 @@ use Rattle.kconf_tree.specs.Made.{is_among, IsWellMade}
 use Rattle.kconf_tree.proofs.Small.{or_left, or_right, number_is, number_self, both_true, is_off}
 use Rattle.kconf_tree.proofs.ValueLaws.{Agree, Alike, alike_same, alike_then}
 use Rattle.complete_conf.proofs.LimitsSame.{calculated_same, right_stays, choice_visibility_same, members_agree}
-use Rattle.kconf_tree.proofs.OrderLaws.{among, Settles}
+use Rattle.node_order.proofs.SettleLaws.{among, Settles}
 use Rattle.complete_conf.proofs.PickLaws.{least_is_allowed, members_test, picks_right}
 use Rattle.complete_conf.proofs.ChoiceLaws.{SameOn, same_on, same_back, members_same, can_same, choice_stays}
 

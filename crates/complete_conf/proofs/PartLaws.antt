@@ -18,7 +18,7 @@ use Rattle.complete_conf.specs.Parts.{Part, Holds, IsClosedPart, IsRightPart, Is
 use Rattle.complete_conf.specs.Completion.{with_value, with_choice, with_node, completed}
 use Rattle.kconf_tree.specs.Made.{is_among, IsWellMade}
 use Rattle.kconf_tree.proofs.Small.{or_left, or_right, or_cases, number_is, number_self, is_off, both_true, and_left, and_right}
-use Rattle.kconf_tree.proofs.OrderLaws.{among, settle_all}
+use Rattle.node_order.proofs.SettleLaws.{among, settle_all}
 use Rattle.complete_conf.proofs.NodeLaws.{settle_node, settle_choice, Right, nodes_settle}
 
 -- ---- what is known stays, along any list of nodes

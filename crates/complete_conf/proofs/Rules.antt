@@ -23,7 +23,7 @@ use Rattle.complete_conf.specs.Completion.{completed}
 use Rattle.kconf_tree.specs.Made.{is_among, IsWellMade}
 use Rattle.kconf_tree.proofs.Small.{or_left, or_right, or_cases, number_self}
 use Rattle.kconf_tree.proofs.RightLaws.{setting_from_right}
-use Rattle.kconf_tree.proofs.OrderLaws.{among, settle_all, completed_right}
+use Rattle.node_order.proofs.SettleLaws.{among, settle_all, completed_right}
 use Rattle.complete_conf.proofs.NodeLaws.{settle_node, Keeps, Right, nodes_settle}
 use Rattle.kconf_tree.proofs.GraphOrders.{ordered_nodes, node_in_order, any_contains}
 use Rattle.complete_conf.proofs.PartLaws.{completed_append, without_members, knows, all_steps, closed_nodes, right_nodes, NoNode, empties_right}

@@ -12,7 +12,7 @@ use Rattle.kconf_tree.specs.Shape.{Shape}
 use Rattle.kconf_tree.specs.Gathered.{distinct}
 use Rattle.kconf_tree.specs.References.{node_of, numbers_of, references_of}
 use Rattle.kconf_tree.specs.Orders.{nodes_of, place_of, graph_of}
-use Rattle.kconf_tree.specs.Graph.{IsGraph, Refers, refers_of}
+use Rattle.node_order.specs.Graph.{IsGraph, Refers, refers_of}
 use Rattle.kconf_tree.specs.Links.{AreRowsBelow}
 use Rattle.kconf_tree.specs.Numbering.{each_at, lists_of, place_among, places_among, rows_among, symbol_places}
 use Rattle.kconf_tree.proofs.Places.{place_within, distinct_has}

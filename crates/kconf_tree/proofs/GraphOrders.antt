@@ -10,10 +10,10 @@ use Rattle.ut_logic.specs.NodeIdentity.{node_eq-Decides}
 use Rattle.kconf_tree.specs.Shape.{Shape}
 use Rattle.kconf_tree.specs.Apart.{AreApart}
 use Rattle.kconf_tree.specs.References.{references_of}
-use Rattle.kconf_tree.specs.Graph.{refers_of, IsOrder as IsGraphOrder}
+use Rattle.node_order.specs.Graph.{refers_of, IsOrder as IsGraphOrder}
 use Rattle.kconf_tree.specs.Orders.{nodes_of, place_of, node_at, graph_of}
 use Rattle.kconf_tree.proofs.Small.{or_left, or_right, or_cases, is_off}
-use Rattle.kconf_tree.proofs.OrderLaws.{among, Within, Ordered}
+use Rattle.node_order.proofs.SettleLaws.{among, Within, Ordered}
 
 -- ---- lists
 

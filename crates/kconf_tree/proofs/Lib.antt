@@ -8,18 +8,12 @@ mod ChoiceLaws
 mod NameLaws
 mod TreeLaws
 pub mod Bounds
-mod GraphLaws
-mod WalkLaws
-mod StepLaws
-mod LayerLaws
-mod ReturnLaws
 mod LinkLaws
 mod GraphOf
 mod BuildLaws
 pub mod Small
 pub mod ValueLaws
 pub mod RightLaws
-pub mod OrderLaws
 pub mod GraphOrders
 pub mod MadeLaws
 mod OrderNodes

@@ -6,7 +6,6 @@ pub mod Properties
 pub mod Valid
 pub mod Right
 pub mod References
-pub mod Graph
 pub mod Orders
 pub mod Limits
 pub mod Arranged
@@ -25,9 +24,3 @@ pub mod Feeding
 pub mod Linking
 pub mod Links
 pub mod Numbering
-pub mod Lists
-pub mod Turning
-pub mod Walks
-pub mod Searching
-pub mod Layers
-pub mod Returns

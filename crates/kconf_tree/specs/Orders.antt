@@ -11,7 +11,7 @@ use Rattle.kconf_tree.specs.Gathered.{distinct}
 use Rattle.kconf_tree.specs.References.{node_of, references_of}
 use Rattle.kconf_tree.specs.declared.bad.TreeBad.{TreeBad}
 use Rattle.kconf_tree.specs.declared.bad.TreeBad.TheVariants.{TooMany, Recursive, Oom}
-use Rattle.kconf_tree.specs.Graph.{HasOrder, IsOrder as IsGraphOrder, IsFirstCycle as IsFirstGraphCycle}
+use Rattle.node_order.specs.Graph.{HasOrder, IsOrder as IsGraphOrder, IsFirstCycle as IsFirstGraphCycle}
 
 -- the nodes in order: that of each symbol, by the first symbol of a node. A choice without members is
 -- left out, since no node refers to it.

@@ -13,17 +13,13 @@
 mod asked_comparison;
 mod bad;
 mod choices;
-mod cycle;
-mod distance;
 mod gather;
-mod graph;
 mod having_choices;
 mod limits;
 mod links;
 mod modules_symbol;
 mod node_references;
 mod numbering;
-mod order;
 mod outer_text;
 mod outers;
 mod parts;

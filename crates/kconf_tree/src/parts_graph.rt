@@ -3,10 +3,10 @@ ghost use Rattle.kconf_tree.specs.Links.{AreRowsBelow};
 ghost use Rattle.kconf_tree.specs.Numbering.{each_at, lists_of, symbol_places};
 ghost use Rattle.kconf_tree.specs.Orders.{nodes_of, graph_of};
 
-use crate::graph::Graph;
 use crate::numbering::{NodeLists, place};
 use crate::parts::Parts;
 use indexmap::IndexSet;
+use node_order::Graph;
 use sqlite_items::Items;
 use std::alloc::{AllocError, Global};
 use ut_logic::Node;

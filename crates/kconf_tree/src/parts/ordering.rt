@@ -6,9 +6,9 @@ ghost use Rattle.kconf_tree.specs.Links.{AreLinks};
 
 use crate::bad::TreeBad;
 use crate::links::Links;
-use crate::order::{GraphBad, ordered};
 use crate::parts::Parts;
 use indexmap::IndexSet;
+use node_order::{GraphBad, ordered};
 use std::alloc::{AllocError, Global};
 use ut_logic::{Node, Sequence};
 

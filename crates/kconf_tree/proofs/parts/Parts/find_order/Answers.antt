@@ -1,6 +1,6 @@
 use Rattle.std.proofs.Common.{Err, sym, ap, subst, ◌∙◌, map, get_or}
 use Rattle.ut_logic.specs.declared.node.Node.TheVariants.{Sym}
-use Rattle.kconf_tree.specs.Graph.{HasOrder, IsFirstCycle}
+use Rattle.node_order.specs.Graph.{HasOrder, IsFirstCycle}
 use Rattle.kconf_tree.proofs.parts.Parts.find_order.Goals as goal
 
 pub returns-in-Err-Cycle-clause-cycle : goal.returns-in-Err-Cycle-clause-cycle

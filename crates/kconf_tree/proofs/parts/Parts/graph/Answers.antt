@@ -2,7 +2,7 @@ use Rattle.std.proofs.Common.{◌≡◌, List, ℕ, sym, ap, ◌∙◌, subst, l
 use Rattle.std.proofs.lemmas.List.FromFn.{length-map-range_with_len}
 use Rattle.ut_logic.specs.declared.node.Node.{Node}
 use Rattle.kconf_tree.specs.Shape.{Shape}
-use Rattle.kconf_tree.specs.Graph.{IsGraph}
+use Rattle.node_order.specs.Graph.{IsGraph}
 use Rattle.kconf_tree.specs.References.{node_of}
 use Rattle.kconf_tree.specs.Links.{AreRowsBelow}
 use Rattle.kconf_tree.specs.Numbering.{each_at, lists_of, place_among, rows_among, symbol_places}

@@ -1,7 +1,0 @@
--- The least of those before this one.
-use Rattle.std.proofs.Common.{take}
-use Rattle.kconf_tree.specs.Returns.{IsAway, IsLeastOf}
-use Rattle.kconf_tree.proofs.cycle.nearest.Given as goal
-
-abbrev pub invariant-loop-node : goal.invariant-loop-node
-invariant-loop-node l = IsLeastOf (IsAway (take l.node-index l.nodes) l.found) l.least

@@ -1,7 +1,0 @@
--- Those before this one are looked at.
-use Rattle.std.proofs.Common.{take}
-use Rattle.kconf_tree.specs.Layers.{AddsNew}
-use Rattle.kconf_tree.proofs.distance.add_new.Given as goal
-
-abbrev pub invariant-loop-node : goal.invariant-loop-node
-invariant-loop-node l = AddsNew l.initial.found.items l.found.items l.initial.next.items l.next.items (take l.node-index l.nodes) l.steps

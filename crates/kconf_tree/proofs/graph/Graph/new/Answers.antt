@@ -1,7 +1,0 @@
-use Rattle.std.proofs.Common.{arith, sym, subst}
-use Rattle.kconf_tree.specs.Graph.{IsGraph}
-use Rattle.kconf_tree.proofs.GraphLaws.{graph_none}
-use Rattle.kconf_tree.proofs.graph.Graph.new.Goals as goal
-
-pub invariant_of-result : goal.invariant_of-result
-invariant_of-result c = subst IsGraph (sym c.loop-i.invariant) (graph_none c.loop-i.i (omega arith))

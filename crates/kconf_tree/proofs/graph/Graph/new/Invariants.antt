@@ -1,6 +1,0 @@
--- So many empty lists are there.
-use Rattle.std.proofs.Common.{◌≡◌, [], map, replicate}
-use Rattle.kconf_tree.proofs.graph.Graph.new.Given as goal
-
-abbrev pub invariant-loop-i : goal.invariant-loop-i
-invariant-loop-i l = map (λ v. v.items) l.lists.items ≡ replicate l.i []

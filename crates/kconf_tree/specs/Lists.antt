@@ -1,6 +1,0 @@
--- A graph's field and what it stands for. No public contract cites this module.
-use Rattle.std.specs.Prelude.{ℕ, List, map}
-use Rattle.kconf_tree.specs.declared.graph.Graph.TheInside.{Inside}
-
-abbrev pub view_of : Inside → List (List ℕ)
-view_of g = map (λ list. list.items) g.lists.items

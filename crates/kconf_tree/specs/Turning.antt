@@ -1,8 +1,0 @@
--- How references are added while a graph is turned round. No public contract cites this module.
-use Rattle.std.specs.Prelude.{◌≡◌, ◌⊎◌, ◌↔◌, ℕ, List, length, Contains}
-use Rattle.kconf_tree.specs.Graph.{Refers}
-
--- each of the nodes refers to that one, too
-pub record AddsEach (old new : List (List ℕ)) (node : ℕ) (nodes : List ℕ) : Type 0 where
-  pub count : length new ≡ length old
-  pub added : (a b : ℕ) → Refers new a b ↔ (Refers old a b ⊎ (Contains nodes a × (b ≡ node)))

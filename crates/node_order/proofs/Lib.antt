@@ -1,0 +1,6 @@
+mod GraphLaws
+mod WalkLaws
+mod StepLaws
+mod LayerLaws
+pub mod ReturnLaws
+pub mod SettleLaws
