@@ -2,10 +2,11 @@
 use mathlib.Core.Bool.{beq}
 use Rattle.std.proofs.Common.{Decides, eqb, ◌&&◌}
 use Rattle.std.proofs.Common.{◌≡◌, ◌≢◌, ℕ, zero, suc, ◌<◌, Bool, true, false, not, List, [], ◌∷◌, Option, Some, None, ◌⊎◌, inl, inr, refl, sym, ap, ◌∙◌, subst, arith}
-use Rattle.std.specs.Prelude.{Contains, MatchOption}
-use Rattle.std.proofs.lemmas.List.Elements.{Contains-append_right}
+use Rattle.std.specs.Prelude.{Contains, MatchOption, get_or}
+use Rattle.std.proofs.lemmas.List.{get_or_default}
+use Rattle.std.proofs.lemmas.List.Elements.{All-contains, Contains-append_right}
 use Rattle.ut_logic.specs.declared.literals.Lit.{Lit}
-use Rattle.ut_logic.specs.Clauses.{literal, value_of, Satisfies, IsOrdered}
+use Rattle.ut_logic.specs.Clauses.{literal, value_of, Satisfies, IsOrdered, CountFromOne, IsClause}
 use Rattle.log_check.specs.Resolution.{IsResolvent, HasNoResolvent}
 use Rattle.std.proofs.lemmas.Bool.{cases_eq, and_parts, and_from, eqb-true, eq-eqb}
 use Rattle.log_check.proofs.Merging.{one_literal, not_itself, literal_same}
@@ -129,3 +130,14 @@ literal_decides a b = (
   λ e. let parts = and_parts (eqb a.var b.var) (beq a.positive b.positive) e in literal_same _ _ _ _ (eqb-true a.var b.var parts.0) (same_from_beq a.positive b.positive parts.1),
   λ e. and_from (eqb a.var b.var) (beq a.positive b.positive) (eq-eqb a.var b.var (ap (λ (l : Lit). l.var) e)) (beq_same a.positive b.positive (ap (λ (l : Lit). l.positive) e)),
 )
+
+-- a resolvent of clauses may be a clause: its literals are theirs
+pub resolvent_clause : (a b : List Lit) (p : ℕ) (r : List Lit) → CountFromOne a → CountFromOne b → IsResolvent a b p r → IsClause r
+resolvent_clause a b p r x y h = record {
+  ordered = h.ordered;
+  counted = λ i d within. by (get_or r i d) (h.sound (get_or r i d) (i, within, get_or_default r i (get_or r i d) d within));
+}
+  where
+    by : (l : Lit) → (Contains a l × (l ≢ literal p h.sign)) ⊎ (Contains b l × (l ≢ literal p (not h.sign))) → 0 < l.var
+    by l (inl (here, differ)) = All-contains (λ (m : Lit). 0 < m.var) a l x here
+    by l (inr (here, differ)) = All-contains (λ (m : Lit). 0 < m.var) b l y here
