@@ -5,7 +5,7 @@ use Rattle.std.specs.Prelude.{ℕ, List}
 abbrev pub Bytes : Type 0
 Bytes = List ℕ
 
--- the bytes of ASCII that have no sign to write them by
+-- bytes of ASCII by their names
 abbrev pub tab : ℕ
 tab = 9
 
@@ -18,6 +18,17 @@ carriage_return = 13
 abbrev pub space : ℕ
 space = 32
 
--- `_`
+abbrev pub double_quote : ℕ
+double_quote = 34
+
+abbrev pub number_sign : ℕ
+number_sign = 35
+
+abbrev pub single_quote : ℕ
+single_quote = 39
+
+abbrev pub backslash : ℕ
+backslash = 92
+
 abbrev pub underscore : ℕ
 underscore = 95
