@@ -9,8 +9,7 @@ use Rattle.std.specs.List.{IsDistinct}
 use Rattle.std.specs.Cmp.{IsEquivalence, eq_by_cmp_equiv}
 use Rattle.ut_logic.specs.declared.node.Node.{Node}
 use Rattle.ut_logic.specs.Node.{node_eq, node_total}
-use Rattle.model_slice.specs.Closed.{has}
-use Rattle.model_slice.specs.Found.{with_one, added}
+use Rattle.model_slice.specs.Found.{has, with_one, added}
 
 pub laws : IsEquivalence node_eq
 laws = eq_by_cmp_equiv node_total

@@ -5,9 +5,10 @@ use Rattle.std.specs.List.{list_all}
 use Rattle.ut_logic.specs.declared.node.Node.{Node}
 use Rattle.ut_logic.specs.declared.facts.Fact.{Fact}
 use Rattle.ut_logic.specs.Node.{node_eq}
-use Rattle.model_slice.specs.Closed.{has, nodes_of, names_of, HasAll, AreKnown, IsLeastClosed}
-use Rattle.model_slice.specs.Found.{place_from, has_fact}
+use Rattle.model_slice.specs.Named.{nodes_of, names_of, AreKnown}
+use Rattle.model_slice.specs.Found.{has, place_from, has_fact}
 use Rattle.model_slice.proofs.AddedLaws.{laws, has_alike}
+use Rattle.model_slice.proofs.TestLaws.{HasAll, all_have, have_all}
 use Rattle.model_slice.proofs.Progress.{names_alike}
 
 fact_from : (k : ℕ) (facts : List Fact) (n : Node) → is_some (place_from k facts n) ≡ has (nodes_of facts) n
@@ -31,18 +32,18 @@ and_second true b h = h
 and_second false b h = grind (arith, common_steps, h)
 
 -- where each of the list has a fact, so has every node that the list has
-pub all_have : (facts : List Fact) (nodes : List Node) → list_all (has_fact facts) nodes ≡ true → HasAll (has (nodes_of facts)) nodes
-all_have facts [] h n g = grind (arith, common_steps, g)
-all_have facts (m ∷ nodes) h n g = by (node_eq n m) refl g (all_have facts nodes (and_second (has_fact facts m) (list_all (has_fact facts) nodes) h) n)
+pub all_pass : (facts : List Fact) (nodes : List Node) → list_all (has_fact facts) nodes ≡ true → HasAll (has (nodes_of facts)) nodes
+all_pass facts [] h n g = grind (arith, common_steps, g)
+all_pass facts (m ∷ nodes) h n g = by (node_eq n m) refl g (all_pass facts nodes (and_second (has_fact facts m) (list_all (has_fact facts) nodes) h) n)
   where
     by : (b : Bool) → node_eq n m ≡ b → (b || has nodes n) ≡ true → (has nodes n ≡ true → has (nodes_of facts) n ≡ true) → has (nodes_of facts) n ≡ true
     by true e i r = has_alike (nodes_of facts) n m e ∙ (sym (has_fact-nodes_of facts m) ∙ and_first (has_fact facts m) (list_all (has_fact facts) nodes) h)
     by false e i r = r i
 
 -- and the other way round
-pub have_all : (facts : List Fact) (nodes : List Node) → HasAll (has (nodes_of facts)) nodes → list_all (has_fact facts) nodes ≡ true
-have_all facts [] h = refl
-have_all facts (m ∷ nodes) h = rw (has_fact-nodes_of facts m ∙ h m (ap (λ b. b || has nodes m) (laws.refl m))) (have_all facts nodes (λ n g. h n (ap (λ b. node_eq n m || b) g ∙ second (node_eq n m))))
+pub pass_all : (facts : List Fact) (nodes : List Node) → HasAll (has (nodes_of facts)) nodes → list_all (has_fact facts) nodes ≡ true
+pass_all facts [] h = refl
+pass_all facts (m ∷ nodes) h = rw (has_fact-nodes_of facts m ∙ h m (ap (λ b. b || has nodes m) (laws.refl m))) (pass_all facts nodes (λ n g. h n (ap (λ b. node_eq n m || b) g ∙ second (node_eq n m))))
   where
     second : (b : Bool) → (b || true) ≡ true
     second true = refl
@@ -55,12 +56,12 @@ module _ (facts : List Fact) where
   names_have (f ∷ fs) h n m g i = by (node_eq n f.node) refl g (names_have fs (and_second (list_all (has_fact facts) (names_of facts f.node)) _ h) n m)
     where
       by : (b : Bool) → node_eq n f.node ≡ b → (b || has (nodes_of fs) n) ≡ true → (has (nodes_of fs) n ≡ true → has (names_of facts n) m ≡ true → has (nodes_of facts) m ≡ true) → has (nodes_of facts) m ≡ true
-      by true e j r = all_have facts (names_of facts f.node) (and_first (list_all (has_fact facts) (names_of facts f.node)) _ h) m (ap (λ ns. has ns m) (sym (names_alike facts n f.node e)) ∙ i)
+      by true e j r = all_pass facts (names_of facts f.node) (and_first (list_all (has_fact facts) (names_of facts f.node)) _ h) m (ap (λ ns. has ns m) (sym (names_alike facts n f.node e)) ∙ i)
       by false e j r = r j i
 
   have_names : (fs : List Fact) → ((n m : Node) → has (names_of facts n) m ≡ true → has (nodes_of facts) m ≡ true) → list_all (λ f. list_all (has_fact facts) (names_of facts f.node)) fs ≡ true
   have_names [] h = refl
-  have_names (f ∷ fs) h = rw (have_all facts (names_of facts f.node) (h f.node)) (have_names fs h)
+  have_names (f ∷ fs) h = rw (pass_all facts (names_of facts f.node) (h f.node)) (have_names fs h)
 
   -- a node without a fact names nothing
   no_fact : (fs : List Fact) (n m : Node) → has (nodes_of fs) n ≡ false → has (names_of fs n) m ≡ false
@@ -74,8 +75,8 @@ module _ (facts : List Fact) where
   -- the tests tell whether all are known
   pub known_by_tests : (roots : List Node) → (list_all (has_fact facts) roots && list_all (λ f. list_all (has_fact facts) (names_of facts f.node)) facts) ≡ true → AreKnown facts roots
   known_by_tests roots h = record {
-    rooted = all_have facts roots (and_first (list_all (has_fact facts) roots) _ h);
-    named = λ n m g. by n m (has (nodes_of facts) n) refl g;
+    rooted = all_have (nodes_of facts) roots (all_pass facts roots (and_first (list_all (has_fact facts) roots) _ h));
+    named = λ n. all_have (nodes_of facts) (names_of facts n) (λ m g. by n m (has (nodes_of facts) n) refl g);
   }
     where
       by : (n m : Node) (b : Bool) → has (nodes_of facts) n ≡ b → has (names_of facts n) m ≡ true → has (nodes_of facts) m ≡ true
@@ -83,8 +84,4 @@ module _ (facts : List Fact) where
       by n m false e g = grind (arith, common_steps, g, no_fact facts n m e)
 
   pub tests_by_known : (roots : List Node) → AreKnown facts roots → (list_all (has_fact facts) roots && list_all (λ f. list_all (has_fact facts) (names_of facts f.node)) facts) ≡ true
-  tests_by_known roots k = rw (have_all facts roots k.rooted) (have_names facts k.named)
-
-  -- each node of a slice has a fact
-  pub slice_known : (roots nodes : List Node) → AreKnown facts roots → IsLeastClosed facts roots nodes → HasAll (has (nodes_of facts)) nodes
-  slice_known roots nodes k l = l.least (has (nodes_of facts)) k.rooted (λ n m g h. k.named n m h)
+  tests_by_known roots k = rw (pass_all facts roots (have_all (nodes_of facts) roots k.rooted)) (have_names facts (λ n. have_all (nodes_of facts) (names_of facts n) (k.named n)))

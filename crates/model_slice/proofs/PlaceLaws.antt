@@ -5,7 +5,7 @@ use Rattle.std.proofs.Math.Seq.{drop-cons, drop-length}
 use Rattle.ut_logic.specs.declared.node.Node.{Node}
 use Rattle.ut_logic.specs.declared.facts.Fact.{Fact}
 use Rattle.ut_logic.specs.Node.{node_eq}
-use Rattle.model_slice.specs.Closed.{names_of}
+use Rattle.model_slice.specs.Named.{names_of}
 use Rattle.model_slice.specs.Found.{place_from}
 
 -- what is found stands in the list, from k on, and has the names

@@ -1,10 +1,12 @@
 -- The search for what is reached: what it keeps, and what it has in the end.
-use Rattle.std.proofs.Common.{◌≡◌, ℕ, ◌+◌, ◌-◌, ◌≤◌, ◌<◌, Bool, true, false, ◌||◌, List, [], ◌∷◌, ◌++◌, length, take, drop, get_or, refl, sym, ap, subst, ◌∙◌, ◌⊎◌, inl, inr, ⊎_elim, rules, arith, cond}
+use Rattle.std.proofs.Common.{◌≡◌, ℕ, ◌+◌, ◌-◌, ◌≤◌, ◌<◌, Bool, true, false, ◌||◌, List, [], ◌∷◌, ◌++◌, length, take, drop, get_or, All, Contains, refl, sym, ap, subst, ◌∙◌, ◌⊎◌, inl, inr, ⊎_elim, rules, arith, cond}
 use Rattle.std.proofs.lemmas.Grind.{common_steps}
 use Rattle.std.proofs.lemmas.List.{take_more, take_all, length-map, append-nil, append_assoc, take-append-drop, length-append, length-take-le}
 use Rattle.std.proofs.Math.Seq.{get_or-append_seam}
 use Rattle.std.proofs.lemmas.List.Folds.{list_any-append, list_any-from_Any}
+use Rattle.std.proofs.lemmas.List.Elements.{All-weaker, All-contains}
 use Rattle.std.proofs.lemmas.Map.Made.{length-le_from_is_member}
+use Rattle.std.proofs.lemmas.Map.Views.{All-from_any}
 use Rattle.std.proofs.lemmas.List.Sorted.{list_any-IsPermutation}
 use Rattle.std.proofs.lemmas.List.Filters.{dedup_is}
 use Rattle.std.proofs.lemmas.List.Kept.{IsStrictlySortedBy-dedup}
@@ -14,9 +16,11 @@ use Rattle.std.specs.List.Sorted.{IsPermutation, IsSorted, IsStrictlySortedBy}
 use Rattle.ut_logic.specs.declared.node.Node.{Node}
 use Rattle.ut_logic.specs.declared.facts.Fact.{Fact}
 use Rattle.ut_logic.specs.Node.{node_eq, node_cmp, node_total}
-use Rattle.model_slice.specs.Closed.{has, names_of, nodes_of, HasAll, IsClosed, IsLeastClosed, AreKnown}
-use Rattle.model_slice.specs.Found.{added}
+use Rattle.model_slice.specs.Closed.{IsLeastClosed}
+use Rattle.model_slice.specs.Named.{names_of, nodes_of, AreKnown}
+use Rattle.model_slice.specs.Found.{has, added}
 use Rattle.model_slice.proofs.AddedLaws.{laws, has-added, distinct_added, length_le-added, take-added, added-append, added_grows}
+use Rattle.model_slice.proofs.TestLaws.{HasAll, IsClosedTest, has-contains, contains-has, all_have, have_all, closed_test}
 
 -- those before `at` have all that they name
 pub record Progress (facts : List Fact) (from found : List Node) (at : ℕ) : Type 0 where
@@ -24,7 +28,7 @@ pub record Progress (facts : List Fact) (from found : List Node) (at : ℕ) : Ty
   pub distinct : IsDistinct node_eq found
   pub roots : HasAll (has found) from
   pub done : (n m : Node) → has (take at found) n ≡ true → has (names_of facts n) m ≡ true → has found m ≡ true
-  pub least : (q : Node → Bool) → HasAll q from → IsClosed facts q → HasAll q found
+  pub least : (q : Node → Bool) → HasAll q from → IsClosedTest facts q → HasAll q found
   pub known : HasAll (has (nodes_of facts)) found
 
 either : (a b : Bool) → (a || b) ≡ true → (a ≡ true) ⊎ (b ≡ true)
@@ -50,7 +54,7 @@ start facts from k = record {
   roots = λ n h. has-added [] from n ∙ h;
   done = λ n m h g. search rules;
   least = λ q r c n h. r n (sym (has-added [] from n) ∙ h);
-  known = λ n h. k.rooted n (sym (has-added [] from n) ∙ h);
+  known = λ n h. have_all (nodes_of facts) from k.rooted n (sym (has-added [] from n) ∙ h);
 }
 
 pub smaller : (facts : List Fact) (from found : List Node) (at : ℕ) → Progress facts from found at → at < length found → length facts - length found < length facts - at
@@ -88,7 +92,7 @@ module _ (facts : List Fact) (from found : List Node) (at : ℕ) (k : AreKnown f
     roots = λ x g. old x (p.roots x g);
     done = λ x m g i. ⊎_elim (λ a. old m (p.done x m a i)) (λ b. new m (ap (λ ns. has ns m) (sym (names_alike facts x n b)) ∙ i)) (in_front x g);
     least = λ q r c x g. ⊎_elim (p.least q r c x) (c n x (p.least q r c n (has_at found at n h (e n)))) (in_next x g);
-    known = λ x g. ⊎_elim (p.known x) (k.named n x) (in_next x g);
+    known = λ x g. ⊎_elim (p.known x) (have_all (nodes_of facts) (names_of facts n) (k.named n) x) (in_next x g);
   }
 
 -- the same of several that follow one another
@@ -143,18 +147,26 @@ same_members xs ys zs p f q = ap (λ ns. has ns q) (dedup_is node_eq ys zs f) �
 pub strictly : (ys zs : List Node) → IsSorted node_cmp ys → IsFiltered (DiffersFromLast node_eq) [] ys zs → IsStrictlySortedBy node_cmp zs
 strictly ys zs s f = subst (IsStrictlySortedBy node_cmp) (sym (dedup_is node_eq ys zs f)) (IsStrictlySortedBy-dedup node_total (λ x y. refl) ys s)
 
--- where all that was found is done, it is the least closed set
-pub finished : (facts : List Fact) (from found : List Node) (at : ℕ) → Progress facts from found at → length found ≤ at → IsLeastClosed facts from found
+-- where all that was found is done, it is the least closed list
+pub finished : (facts : List Fact) (from found : List Node) (at : ℕ) → Progress facts from found at → length found ≤ at → IsLeastClosed (names_of facts) from found
 finished facts from found at p h = record {
-  rooted = p.roots;
-  closed = λ n m g i. p.done n m (subst (λ ns. has ns n ≡ true) (sym (take_all at found h)) g) i;
-  least = p.least;
+  rooted = all_have found from p.roots;
+  closed = All-from_any laws (λ n. All (Contains found) (names_of facts n)) found (λ n g. all_have found (names_of facts n)
+      (λ m i. p.done n m (subst (λ ns. has ns n ≡ true) (sym (take_all at found h)) g) i));
+  least = λ other r c. all_have other found (p.least (has other) (have_all other from r) (closed_test facts other c));
 }
 
 -- the same nodes in another order are as well
-pub same_set : (facts : List Fact) (from xs ys : List Node) → ((q : Node) → has ys q ≡ has xs q) → IsLeastClosed facts from xs → IsLeastClosed facts from ys
+pub same_set : (facts : List Fact) (from xs ys : List Node) → ((q : Node) → has ys q ≡ has xs q) → IsLeastClosed (names_of facts) from xs → IsLeastClosed (names_of facts) from ys
 same_set facts from xs ys same l = record {
-  rooted = λ n h. same n ∙ l.rooted n h;
-  closed = λ n m h g. same m ∙ l.closed n m (sym (same n) ∙ h) g;
-  least = λ q r c n h. l.least q r c n (sym (same n) ∙ h);
+  rooted = All-weaker (Contains xs) (Contains ys) over from l.rooted;
+  closed = All-from_any laws (λ n. All (Contains ys) (names_of facts n)) ys (λ n g. All-weaker (Contains xs) (Contains ys) over (names_of facts n)
+      (All-contains (λ m. All (Contains xs) (names_of facts m)) xs n l.closed (back n g)));
+  least = λ other r c. All-from_any laws (Contains other) ys (λ n g. All-contains (Contains other) xs n (l.least other r c) (back n g));
 }
+  where
+    over : (n : Node) → Contains xs n → Contains ys n
+    over n c = has-contains ys n (same n ∙ contains-has xs n c)
+
+    back : (n : Node) → has ys n ≡ true → Contains xs n
+    back n g = has-contains xs n (sym (same n) ∙ g)

@@ -1,40 +1,13 @@
--- The least closed set of nodes that has the roots of a question: it has what each of its nodes names, and
--- every such set that has the roots has all of its nodes. The usual least fixed point; that a question
--- looks at these nodes alone is this project's rule.
-use Rattle.std.specs.Prelude.{◌≡◌, Bool, true, List, [], ◌∷◌, map, if◌then◌else◌}
-use Rattle.std.specs.List.{list_any}
-use Rattle.ut_logic.specs.declared.node.Node.{Node}
-use Rattle.ut_logic.specs.declared.facts.Fact.{Fact}
-use Rattle.ut_logic.specs.Node.{node_eq}
+-- The least closed list over nodes of any type: it holds some roots and all that its nodes name, and every such
+-- list holds all of it. The usual least fixed point.
+use Rattle.std.specs.Prelude.{List, All, Contains}
 
--- whether the list has the node
-abbrev pub has : List Node → Node → Bool
-has nodes n = list_any (node_eq n) nodes
+-- each name that a listed node has is listed
+abbrev pub IsClosed : {A : Type 0} → (A → List A) → List A → Type 0
+IsClosed names_of nodes = All (λ node. All (Contains nodes) (names_of node)) nodes
 
--- the nodes that have a fact
-abbrev pub nodes_of : List Fact → List Node
-nodes_of facts = map (λ f. f.node) facts
-
--- what the fact of n names: that of the first, if there are several
-abbrev pub names_of : List Fact → Node → List Node
-names_of [] n = []
-names_of (f ∷ fs) n = if node_eq f.node n then f.names else names_of fs n
-
--- the set has each of the nodes
-abbrev pub HasAll : (Node → Bool) → List Node → Type 0
-HasAll q nodes = (n : Node) → has nodes n ≡ true → q n ≡ true
-
--- the set has what each of its nodes names
-abbrev pub IsClosed : List Fact → (Node → Bool) → Type 0
-IsClosed facts q = (n m : Node) → q n ≡ true → has (names_of facts n) m ≡ true → q m ≡ true
-
--- the nodes are the least closed set that has the roots
-pub record IsLeastClosed (facts : List Fact) (roots nodes : List Node) : Type 0 where
-  pub rooted : HasAll (has nodes) roots
-  pub closed : IsClosed facts (has nodes)
-  pub least : (q : Node → Bool) → HasAll q roots → IsClosed facts q → HasAll q nodes
-
--- each root, and each node that a fact names, has a fact
-pub record AreKnown (facts : List Fact) (roots : List Node) : Type 0 where
-  pub rooted : HasAll (has (nodes_of facts)) roots
-  pub named : (n m : Node) → has (names_of facts n) m ≡ true → has (nodes_of facts) m ≡ true
+-- the nodes are the least list that holds the roots and is closed
+pub record IsLeastClosed {A : Type 0} (names_of : A → List A) (roots nodes : List A) : Type 0 where
+  pub rooted : All (Contains nodes) roots
+  pub closed : IsClosed names_of nodes
+  pub least : (other : List A) → All (Contains other) roots → IsClosed names_of other → All (Contains other) nodes

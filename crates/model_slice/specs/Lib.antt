@@ -1,3 +1,4 @@
 pub mod Closed
+pub mod Named
 pub mod Found
 pub mod Seen

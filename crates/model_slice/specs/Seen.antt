@@ -2,7 +2,7 @@
 use Rattle.std.specs.Prelude.{◌≡◌, Bool, true, false, List, slice_index_or}
 use Rattle.ut_logic.specs.declared.node.Node.{Node}
 use Rattle.ut_logic.specs.declared.node.Node.TheVariants.{Sym}
-use Rattle.model_slice.specs.Closed.{has}
+use Rattle.model_slice.specs.Found.{has}
 
 -- whether the node is a symbol that is marked
 abbrev pub seen_in : List Bool → Node → Bool

@@ -1,6 +1,6 @@
 ghost use Rattle.std.specs.Prelude.{◌≡◌, ◌↔◌, ◌&&◌, IfOk, IsTrue};
 ghost use Rattle.std.specs.List.{list_all};
-ghost use Rattle.model_slice.specs.Closed.{AreKnown, names_of};
+ghost use Rattle.model_slice.specs.Named.{AreKnown, names_of};
 ghost use Rattle.model_slice.specs.Found.{Finds, has_fact};
 
 use crate::places::Places;

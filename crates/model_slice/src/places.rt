@@ -3,7 +3,7 @@ ghost use Rattle.indexmap.specs.IndexMap.{get};
 ghost use Rattle.ut_logic.specs.Node.{node_eq};
 ghost use Rattle.ut_logic.specs.declared.node.Node as declared;
 ghost use Rattle.ut_logic.specs.declared.facts.Fact as declared_fact;
-ghost use Rattle.model_slice.specs.Closed.{names_of};
+ghost use Rattle.model_slice.specs.Named.{names_of};
 ghost use Rattle.model_slice.specs.Found.{Finds, place_from};
 
 use indexmap::IndexMap;

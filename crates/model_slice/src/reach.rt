@@ -2,7 +2,8 @@ ghost use Rattle.std.specs.Prelude.{◌≡◌, map, IfOk};
 ghost use Rattle.std.specs.List.{flat_map};
 ghost use Rattle.std.specs.List.Sorted.{IsStrictlySortedBy};
 ghost use Rattle.ut_logic.specs.Node.{node_cmp};
-ghost use Rattle.model_slice.specs.Closed.{IsLeastClosed, AreKnown, names_of};
+ghost use Rattle.model_slice.specs.Closed.{IsLeastClosed};
+ghost use Rattle.model_slice.specs.Named.{AreKnown, names_of};
 ghost use Rattle.model_slice.specs.Found.{Finds};
 
 use crate::nodes::Slice;
@@ -18,7 +19,7 @@ use ut_logic::{Facts, Node, Sequence};
 /// The roots and the nodes that are named have facts; of several facts of one node the first counts.
 pub fn slice(alloc: Global, facts: &Facts, roots: &[Node]) -> Result<Slice, AllocError>
     requires { AreKnown facts.now.list roots.now }
-    ensures least_closed { IfOk result (λ s. IsLeastClosed facts.now.list roots.now s.nodes) }
+    ensures least_closed { IfOk result (λ s. IsLeastClosed (names_of facts.now.list) roots.now s.nodes) }
     ensures sorted { IfOk result (λ s. IsStrictlySortedBy node_cmp s.nodes) }
 {
     let places = Places::of(alloc, facts)?;
@@ -35,7 +36,7 @@ pub fn slice_with(
 ) -> Result<Slice, AllocError>
     requires known { AreKnown facts.now.list roots.now }
     requires places { Finds facts.now.list places.now }
-    ensures least_closed { IfOk result (λ s. IsLeastClosed facts.now.list roots.now s.nodes) }
+    ensures least_closed { IfOk result (λ s. IsLeastClosed (names_of facts.now.list) roots.now s.nodes) }
     ensures sorted { IfOk result (λ s. IsStrictlySortedBy node_cmp s.nodes) }
 {
     let found = reached(alloc, facts, places, roots)?;
@@ -57,7 +58,7 @@ fn reached(
 ) -> Result<IndexSet<Node>, AllocError>
     requires known { AreKnown facts.now.list roots.now }
     requires places { Finds facts.now.list places.now }
-    ensures { IfOk result (λ found. IsLeastClosed facts.now.list roots.now found.keys) }
+    ensures { IfOk result (λ found. IsLeastClosed (names_of facts.now.list) roots.now found.keys) }
 {
     let mut found = IndexSet::new(alloc);
     let mut seen = unseen(alloc, facts.list.len())?;

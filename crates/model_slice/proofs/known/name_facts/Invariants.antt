@@ -2,7 +2,7 @@
 use Rattle.std.proofs.Common.{◌≡◌, drop}
 use Rattle.std.specs.List.{list_all}
 use Rattle.ut_logic.specs.declared.facts.Fact.{Fact}
-use Rattle.model_slice.specs.Closed.{names_of}
+use Rattle.model_slice.specs.Named.{names_of}
 use Rattle.model_slice.specs.Found.{has_fact}
 use Rattle.model_slice.proofs.known.name_facts.Given as goal
 

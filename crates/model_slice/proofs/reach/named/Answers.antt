@@ -2,7 +2,7 @@ use Rattle.std.proofs.Common.{◌≡◌, IfOk, List, Bor, map, sym, ap, subst, �
 use Rattle.std.proofs.lemmas.List.Folds.{flat_map-map}
 use Rattle.std.specs.List.{flat_map}
 use Rattle.ut_logic.specs.declared.node.Node.{Node}
-use Rattle.model_slice.specs.Closed.{names_of}
+use Rattle.model_slice.specs.Named.{names_of}
 use Rattle.model_slice.proofs.reach.named.Goals as goal
 
 pub returns : goal.returns

@@ -1,6 +1,6 @@
 -- What the facts of the nodes so far name.
 use Rattle.std.proofs.Common.{◌≡◌, take, map}
-use Rattle.model_slice.specs.Closed.{names_of}
+use Rattle.model_slice.specs.Named.{names_of}
 use Rattle.model_slice.proofs.reach.names_each.Given as goal
 
 abbrev pub invariant-loop-node : goal.invariant-loop-node

@@ -2,7 +2,7 @@ use Rattle.std.proofs.Common.{sym, ap, subst, ◌∙◌, List, length, drop, ◌
 use Rattle.std.proofs.lemmas.List.{take_all, length-drop}
 use Rattle.std.specs.List.{flat_map}
 use Rattle.ut_logic.specs.declared.node.Node.{Node}
-use Rattle.model_slice.specs.Closed.{names_of}
+use Rattle.model_slice.specs.Named.{names_of}
 use Rattle.model_slice.specs.Found.{added}
 use Rattle.model_slice.proofs.Progress.{Progress, start, level, smaller, finished}
 use Rattle.model_slice.proofs.reach.reached.Goals as goal

@@ -1,6 +1,6 @@
 use Rattle.std.proofs.Common.{ap, List, ◌∙◌}
 use Rattle.ut_logic.specs.declared.node.Node.{Node}
-use Rattle.model_slice.specs.Closed.{has}
+use Rattle.model_slice.specs.Found.{has}
 use Rattle.model_slice.proofs.Progress.{same_members, same_set, strictly}
 use Rattle.model_slice.proofs.reach.slice_with.Goals as goal
 
