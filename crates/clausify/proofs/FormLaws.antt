@@ -21,7 +21,7 @@ use Rattle.ut_logic.specs.Truth.{truths, all_true, mentioned, together}
 use Rattle.ut_logic.specs.Clauses.{AreWithin, IsModel}
 use Rattle.clausify.specs.declared.stage.Stage.{Stage}
 use Rattle.clausify.specs.declared.stage.Stage.TheVariants.{Symbols, Starts, Blocks, States}
-use Rattle.clausify.specs.ClauseForm.{var_at, var_of}
+use Rattle.clausify.specs.ClauseForm.{HaveVariables, var_at, var_of}
 use Rattle.clausify.specs.Order.{holds_in, defines_in, form_over, mentioned_in, items_of, outers_of, is_outer, AreListed, IsWishOver}
 use Rattle.clausify.specs.Tidy.{AreTidy}
 use Rattle.clausify.specs.Meaning.{items_under, AreMet, StandsFor}
@@ -30,7 +30,6 @@ use Rattle.clausify.proofs.Meets.{Meets, Within}
 use Rattle.clausify.proofs.Held.{Held}
 use Rattle.clausify.proofs.Models.{tidy_meets, meets_tidy, model_from_meets, meets_from_model, tidy_are_within}
 use Rattle.clausify.proofs.OrderLaws.{AllMetIn, Whole, holds_whole}
-use Rattle.clausify.proofs.WaysLaws.{HaveVariables}
 
 -- ---- the variables of items
 
@@ -163,6 +162,17 @@ module _ (items : List Item) (fs : List Fact) (wish : List Formula) (members : (
   }
 
 -- ---- as the code has it
+
+-- what facts and wish mention has variables
+pub record Known (vars : List Item) (fs : List Fact) (wish : List Formula) : Type 0 where
+  pub facts : HaveVariables (var_of vars) (mentioned_in fs)
+  pub wishes : HaveVariables (var_of vars) (together (map mentioned wish))
+
+pub known : (vars : List Item) (fs gs hs : List Fact) (wish : List Formula) → gs ≡ fs → hs ≡ fs
+    → ((i : Item) → is_in vars i ≡ is_in (items_of gs ++ outers_of wish) i) → AreListed fs → IsWishOver fs wish → Known vars hs wish
+known vars fs gs hs wish same_g same_h members listed over =
+    let m : (i : Item) → is_in vars i ≡ is_in (items_of fs ++ outers_of wish) i = λ i. members i ∙ ap (λ (ks : List Fact). is_in (items_of ks ++ outers_of wish) i) same_g in
+    subst (λ (ks : List Fact). Known vars ks wish) (sym same_h) (record { facts = facts_have vars fs wish m listed over; wishes = wish_have vars fs wish m listed over })
 
 -- what is asked of a clause form, and what it is
 pub record Finished (items : List Item) (fs : List Fact) (wish : List Formula) (count : ℕ) (cs : List (List Lit)) : Type 0 where

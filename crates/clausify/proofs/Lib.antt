@@ -14,3 +14,4 @@ pub mod NumberedLaws
 pub mod Shifts
 pub mod FormLaws
 pub mod KnownLaws
+pub mod SettledLaws

@@ -18,14 +18,14 @@ use Rattle.ut_logic.proofs.MentionLaws.{mentioned_at, mentioned_out}
 use Rattle.clausify.specs.declared.stage.Stage.{Stage}
 use Rattle.clausify.specs.declared.stage.Stage.TheVariants.{Symbols, Starts, Blocks, States}
 use Rattle.clausify.specs.Form.{Form}
-use Rattle.clausify.specs.ClauseForm.{pos, neg, literal, literals, hold, hold_each, defined, defined_at, defined_each, same_behind, all_clauses, any_clauses, same_clauses}
+use Rattle.clausify.specs.ClauseForm.{HaveVariables, pos, neg, literal, literals, hold, hold_each, defined, defined_at, defined_each, same_behind, all_clauses, any_clauses, same_clauses}
 use Rattle.clausify.specs.Order.{holds_in, defines_in, held_in, defined_in, staged, form_of, mentioned_of, mentioned_in}
 use Rattle.clausify.specs.Meaning.{Agree}
 use Rattle.clausify.proofs.Meets.{Meets, lits_true, all_within, any_within, same_within}
 use Rattle.clausify.proofs.Grows.{stays, then_grows, weaker}
 use Rattle.clausify.proofs.Define.{all_if, all_met, any_if, any_met, same_if_met, met_if_same}
 use Rattle.clausify.proofs.Held.{Held, held_none, then_held, held_as, held_after}
-use Rattle.clausify.proofs.WaysLaws.{Makes, MakesEach, HaveVariables, have_front, have_back, works, means_alike, all_alike, and_first, and_second, and_both, or_only}
+use Rattle.clausify.proofs.WaysLaws.{Makes, MakesEach, have_front, have_back, works, means_alike, all_alike, and_first, and_second, and_both, or_only}
 
 module _ (at : Item → ℕ) (n : ℕ) (known : (i : Item) → at i ≤ n) where
   -- the truths of items
@@ -163,7 +163,7 @@ module _ (at : Item → ℕ) (n : ℕ) (known : (i : Item) → at i ≤ n) where
   reads_stage m stage [] h w u a q = tt
   reads_stage m stage (f ∷ fs) h w u a q = (reads_fact m stage f h w u a q.0, reads_stage m stage fs h w u a q.1)
 
-  holds_fact : (stage : Stage) (f : Fact) (s : Form) → n ≤ s.vars → HaveVariables at (mentioned_of f) → Held s (defined_each at (defined_in stage f) (hold_each at (held_in stage f) s)) (λ w. MetIn stage w f)
+  pub holds_fact : (stage : Stage) (f : Fact) (s : Form) → n ≤ s.vars → HaveVariables at (mentioned_of f) → Held s (defined_each at (defined_in stage f) (hold_each at (held_in stage f) s)) (λ w. MetIn stage w f)
   holds_fact stage f s h v =
       let one = holds_each (held_in stage f) s h (held_variables stage f v) in
       let t = hold_each at (held_in stage f) s in

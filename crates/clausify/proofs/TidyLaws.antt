@@ -6,7 +6,8 @@ use Rattle.std.proofs.lemmas.Bool.{false≢true, eqb-true, cases_lt}
 use Rattle.std.proofs.lemmas.Bool.Decides.{nat_tests}
 use Rattle.std.proofs.lemmas.List.{get_or_default, take_more, append-nil, append_assoc}
 use Rattle.std.proofs.lemmas.List.Folds.{Any-from_list_any, list_any-from_Any, list_any_at}
-use Rattle.std.proofs.lemmas.List.Filters.{dedup_is}
+use Rattle.std.proofs.lemmas.List.Filters.{dedup_is, All-dedup}
+use Rattle.std.proofs.lemmas.List.Sorted.{All-permutation}
 use Rattle.std.proofs.lemmas.List.Elements.{filter-append, AllZip-push}
 use Rattle.std.proofs.lemmas.List.Kept.{IsStrictlySortedBy-dedup}
 use Rattle.std.proofs.lemmas.Map.Keys.{sorted_tail}
@@ -21,7 +22,7 @@ use Rattle.std.specs.List.Retain.{IsFiltered, DiffersFromLast}
 use Rattle.std.specs.List.Sorted.{IsPermutation, IsSorted, IsStrictlySortedBy}
 use Rattle.ut_logic.specs.declared.literals.Lit.{Lit}
 use Rattle.ut_logic.specs.Keys.{same_number}
-use Rattle.ut_logic.specs.Clauses.{negated, IsOrdered}
+use Rattle.ut_logic.specs.Clauses.{negated, CountFromOne, IsOrdered}
 use Rattle.clausify.specs.Tidy.{is_lit, has_lit, has_both_signs, IsTidy, AreTidy, AddsTidy}
 use Rattle.clausify.proofs.Kept.{any_kept}
 
@@ -154,6 +155,11 @@ module _ (lits sorted kept : List Lit) (moved : IsPermutation lits sorted) (filt
   -- where what is left is in order, it is tidy
   pub tidy_kept : IsOrdered kept → (has_both_signs lits ≡ false) × IsTidy lits kept
   tidy_kept o = (sym same_both ∙ not_both_in_order kept o, record { ordered = o; same = same_lits })
+
+  -- what has no variable 0 has none in order
+  pub counted_kept : CountFromOne lits → CountFromOne kept
+  counted_kept h = subst CountFromOne (sym (dedup_is is_lit sorted kept filtered))
+      (All-dedup is_lit (λ (l : Lit). 0 < l.var) sorted (All-permutation (λ (l : Lit). 0 < l.var) lits sorted moved h))
 
   -- where it is not, both signs of a variable are there
   pub both_kept : IsSorted lit_cmp sorted → ¬ IsOrdered kept → has_both_signs lits ≡ true

@@ -14,7 +14,7 @@ use Rattle.ut_logic.specs.Item.{item_eq, item_total}
 use Rattle.ut_logic.specs.Clauses.{value_of}
 use Rattle.ut_logic.specs.Truth.{truth, truth_step, all_true, any_true, mentioned, mention_step, together}
 use Rattle.clausify.specs.Form.{Form}
-use Rattle.clausify.specs.ClauseForm.{Ways, ways, ways_step, define_all, define_any, negate_first, each_in_turn, in_turn, asserted, asserted_any}
+use Rattle.clausify.specs.ClauseForm.{HaveVariables, Ways, ways, ways_step, define_all, define_any, negate_first, each_in_turn, in_turn, asserted, asserted_any}
 use Rattle.clausify.specs.Meaning.{Agree}
 use Rattle.clausify.proofs.Meets.{LitWithin, LitsWithin, lits_true}
 use Rattle.clausify.proofs.Grows.{Grows, stays, then_grows, weaker}
@@ -69,10 +69,6 @@ holds_any s r t reads m = held_after s r.1 (r.0 ∷ []) (λ w. lits_true w r.0 �
 pub record Works (n : ℕ) (m : Ways) (t : (ℕ → Bool) → Bool) : Type 0 where
   pub literal : (s : Form) → n ≤ s.vars → Makes s (m.literal s) t
   pub held : (s : Form) → n ≤ s.vars → Held s (m.held s) (λ w. t w ≡ true)
-
--- the items of the list have variables
-abbrev pub HaveVariables : (Item → ℕ) → List Item → Type 0
-HaveVariables at items = (i : Item) → is_in items i ≡ true → 0 < at i
 
 second_true : (a b : Bool) → b ≡ true → (a || b) ≡ true
 second_true true b h = refl

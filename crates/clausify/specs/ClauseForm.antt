@@ -1,7 +1,7 @@
 -- The clauses of formulas, with a new variable for each inner node: Tseitin's translation, in the order in
 -- which this project writes it. A formula that is held, an item that a formula defines, and an inner node
 -- of a formula each have their own clauses; those of inner nodes come before those that use them.
-use Rattle.std.specs.Prelude.{ℕ, ◌+◌, true, false, List, [], ◌∷◌, ◌++◌, map, position, Option, None, Some}
+use Rattle.std.specs.Prelude.{◌≡◌, ℕ, ◌+◌, ◌<◌, true, false, List, [], ◌∷◌, ◌++◌, map, position, Option, None, Some}
 use Rattle.ut_logic.specs.declared.item.Item.{Item}
 use Rattle.ut_logic.specs.declared.literals.Lit.{Lit}
 use Rattle.ut_logic.specs.declared.facts.Definition.{Definition}
@@ -9,6 +9,7 @@ use Rattle.ut_logic.specs.declared.formula.Formula.{Formula, out-Formula}
 use Rattle.ut_logic.specs.declared.formula.Formula.TheOpen.{Formula-F}
 use Rattle.ut_logic.specs.declared.formula.Formula.TheFolds.{fold-Formula}
 use Rattle.ut_logic.specs.Clauses.{literal as lit, negated}
+use Rattle.ut_logic.specs.Assign.{is_in}
 use Rattle.ut_logic.specs.Item.{item_eq}
 use Rattle.clausify.specs.Form.{Form}
 
@@ -28,6 +29,10 @@ var_at (Some k) = k + 1
 -- the variable of an item, by its place in the list; an item that is not there has none
 abbrev pub var_of : List Item → Item → ℕ
 var_of items item = var_at (position (item_eq item) items)
+
+-- each item of the list has a variable
+abbrev pub HaveVariables : (Item → ℕ) → List Item → Type 0
+HaveVariables at items = (i : Item) → is_in items i ≡ true → 0 < at i
 
 -- ---- what says that a variable is all, any or one of some literals
 

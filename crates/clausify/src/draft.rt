@@ -1,6 +1,6 @@
 ghost use Rattle.std.specs.Prelude.{◌≡◌, [], IfOk, OnOk};
 ghost use Rattle.clausify.specs.Form as spec;
-ghost use Rattle.clausify.specs.Draft.{IsDraft};
+ghost use Rattle.clausify.specs.Draft.{IsDraft, AreCounted};
 
 use crate::builder::Builder;
 use crate::tidy::tidy_each;
@@ -20,7 +20,8 @@ pub struct Draft {
 impl Draft {
     /// No clauses over these variables, and room for so many.
     pub fn new(alloc: Global, vars: u64, room: usize) -> Result<Draft, AllocError>
-        ensures { IfOk result (λ d. IsDraft (record { vars = vars; clauses = [] }) d.written d.clauses.items) }
+        ensures draft { IfOk result (λ d. IsDraft (record { vars = vars; clauses = [] }) d.written d.clauses.items) }
+        ensures none { IfOk result (λ d. d.written ≡ record { vars = vars; clauses = [] }) }
     {
         Ok(Draft {
             written: Builder::new(alloc, vars),
@@ -31,8 +32,9 @@ impl Draft {
 
     /// Puts in order what is as it was written.
     pub fn settle(&mut self, alloc: Global) -> Result<(), AllocError>
+        requires { AreCounted self.old.written.clauses }
         ensures draft { OnOk result ((s : spec.Form) → IsDraft s self.old.written self.old.clauses.items → IsDraft s self.new.written self.new.clauses.items) }
-        ensures settled { OnOk result (self.new.written.clauses ≡ []) }
+        ensures none { OnOk result (self.new.written ≡ record { vars = self.old.written.vars; clauses = [] }) }
     {
         tidy_each(
             alloc,

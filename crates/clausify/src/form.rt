@@ -3,11 +3,12 @@ ghost use Rattle.ut_logic.specs.Assign.{is_in};
 ghost use Rattle.ut_logic.specs.Item.{item_cmp};
 ghost use Rattle.ut_logic.specs.declared.item.Item as declared;
 ghost use Rattle.model_slice.specs.Found.{Finds};
-ghost use Rattle.clausify.specs.ClauseForm.{var_of, hold_each, defined_each};
+ghost use Rattle.ut_logic.specs.Truth.{mentioned, together};
+ghost use Rattle.clausify.specs.ClauseForm.{HaveVariables, var_of, hold_each, defined_each};
 ghost use Rattle.clausify.specs.Meaning.{StandsFor};
 ghost use Rattle.clausify.specs.Order as order;
 ghost use Rattle.clausify.specs.Form as spec;
-ghost use Rattle.clausify.specs.Draft.{IsDraft};
+ghost use Rattle.clausify.specs.Draft.{IsDraft, IsSettled};
 ghost use Rattle.clausify.specs.Tidy.{AreTidy};
 
 use crate::builder::Builder;
@@ -79,6 +80,8 @@ fn drafted(
     facts: &[&Fact],
     wish: &[Formula],
 ) -> Result<Draft, AllocError>
+    requires facts { HaveVariables (var_of vars.now) (order.mentioned_in (map (λ f. f.now) facts.now)) }
+    requires wish { HaveVariables (var_of vars.now) (together (map mentioned wish.now)) }
     ensures vars { IfOk result (λ d. d.written.vars ≡ (order.form_over vars.now (map (λ f. f.now) facts.now) wish.now).vars) }
     ensures clauses { IfOk result (λ d. AreTidy (order.form_over vars.now (map (λ f. f.now) facts.now) wish.now).clauses d.clauses.items) }
 {
@@ -100,8 +103,10 @@ fn add_wish(
     wish: &[Formula],
     draft: &mut Draft,
 ) -> Result<(), AllocError>
+    requires known { HaveVariables (var_of vars.now) (together (map mentioned wish.now)) }
+    requires settled { IsSettled vars.now draft.old.written }
     ensures draft { OnOk result ((s : spec.Form) → IsDraft s draft.old.written draft.old.clauses.items → IsDraft (hold_each (var_of vars.now) wish.now s) draft.new.written draft.new.clauses.items) }
-    ensures settled { OnOk result (draft.new.written.clauses ≡ []) }
+    ensures settled { OnOk result (IsSettled vars.now draft.new.written) }
 {
     hold_each(alloc, vars, wish, &mut draft.written)?;
     draft.settle(alloc)?;
@@ -117,8 +122,11 @@ fn add_stage(
     facts: &[&Fact],
     draft: &mut Draft,
 ) -> Result<(), AllocError>
-    requires { nodes.now ≡ map (λ f. f.now.node) facts.now }
-    ensures { OnOk result ((s : spec.Form) → IsDraft s draft.old.written draft.old.clauses.items → IsDraft (order.staged (var_of vars.now) stage (map (λ f. f.now) facts.now) s) draft.new.written draft.new.clauses.items) }
+    requires nodes { nodes.now ≡ map (λ f. f.now.node) facts.now }
+    requires known { HaveVariables (var_of vars.now) (order.mentioned_in (map (λ f. f.now) facts.now)) }
+    requires settled { IsSettled vars.now draft.old.written }
+    ensures settled { OnOk result (IsSettled vars.now draft.new.written) }
+    ensures draft { OnOk result ((s : spec.Form) → IsDraft s draft.old.written draft.old.clauses.items → IsDraft (order.staged (var_of vars.now) stage (map (λ f. f.now) facts.now) s) draft.new.written draft.new.clauses.items) }
 {
     for place in 0..facts.len() {
         add_fact(alloc, vars, stage, nodes[place], facts[place], draft)?;
@@ -135,8 +143,11 @@ fn add_fact(
     fact: &Fact,
     draft: &mut Draft,
 ) -> Result<(), AllocError>
-    requires { node ≡ fact.now.node }
-    ensures { OnOk result ((s : spec.Form) → IsDraft s draft.old.written draft.old.clauses.items → IsDraft (defined_each (var_of vars.now) (order.defined_in stage fact.now) (hold_each (var_of vars.now) (order.held_in stage fact.now) s)) draft.new.written draft.new.clauses.items) }
+    requires node { node ≡ fact.now.node }
+    requires known { HaveVariables (var_of vars.now) (order.mentioned_of fact.now) }
+    requires settled { IsSettled vars.now draft.old.written }
+    ensures settled { OnOk result (IsSettled vars.now draft.new.written) }
+    ensures draft { OnOk result ((s : spec.Form) → IsDraft s draft.old.written draft.old.clauses.items → IsDraft (defined_each (var_of vars.now) (order.defined_in stage fact.now) (hold_each (var_of vars.now) (order.held_in stage fact.now) s)) draft.new.written draft.new.clauses.items) }
 {
     if stage.takes(node) {
         add_taken(alloc, vars, stage, fact, draft)
@@ -153,7 +164,10 @@ fn add_taken(
     fact: &Fact,
     draft: &mut Draft,
 ) -> Result<(), AllocError>
-    ensures { OnOk result ((s : spec.Form) → IsDraft s draft.old.written draft.old.clauses.items → IsDraft (defined_each (var_of vars.now) (order.defined_in stage fact.now) (hold_each (var_of vars.now) (order.held_in stage fact.now) s)) draft.new.written draft.new.clauses.items) }
+    requires known { HaveVariables (var_of vars.now) (order.mentioned_of fact.now) }
+    requires settled { IsSettled vars.now draft.old.written }
+    ensures settled { OnOk result (IsSettled vars.now draft.new.written) }
+    ensures draft { OnOk result ((s : spec.Form) → IsDraft s draft.old.written draft.old.clauses.items → IsDraft (defined_each (var_of vars.now) (order.defined_in stage fact.now) (hold_each (var_of vars.now) (order.held_in stage fact.now) s)) draft.new.written draft.new.clauses.items) }
 {
     add_held(alloc, vars, stage, fact, &mut draft.written)?;
     add_defined(alloc, vars, stage, fact, &mut draft.written)?;

@@ -5,11 +5,11 @@ ghost use Rattle.ut_logic.specs.Truth.{mentioned, together};
 ghost use Rattle.clausify.specs.Order as order;
 
 use crate::chosen::chosen;
-use crate::variables::{collected, is_outer, listed, mention, mention_each};
+use crate::variables::{collected, is_outer, listed};
 use indexmap::IndexSet;
 use model_slice::{Places, Slice};
 use std::alloc::{AllocError, Global};
-use ut_logic::{Definition, Fact, Facts, Formula, Item};
+use ut_logic::{Definition, Fact, Facts, Formula, Item, mention, mention_each};
 
 /// Whether each item that the slice's facts mention is listed in one of them, and each that the wish
 /// mentions is or is an outer condition, as `clauses` asks. The only error is want of memory.

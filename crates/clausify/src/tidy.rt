@@ -1,5 +1,7 @@
 ghost use Rattle.std.specs.Prelude.{◌≡◌, ◌++◌, List, Bool, true, false, IfOk, OnOk, MatchOption};
 ghost use Rattle.ut_logic.specs.declared.literals.Lit as declared;
+ghost use Rattle.ut_logic.specs.Clauses.{CountFromOne};
+ghost use Rattle.clausify.specs.Draft.{AreCounted};
 ghost use Rattle.clausify.specs.Tidy.{AddsTidy, AreTidy, IsTidy, has_both_signs};
 
 use crate::lits::Lits;
@@ -13,6 +15,7 @@ pub fn tidy_each(
     sorted: &mut Vec<Lit>,
     written: &[Lits],
 ) -> Result<(), AllocError>
+    requires { AreCounted written.now }
     ensures { OnOk result ((front : List (List declared.Lit)) → AreTidy front clauses.old.items → AreTidy (front ++ written.now) clauses.new.items) }
 {
     for lits in written {
@@ -28,6 +31,7 @@ fn add_tidy(
     sorted: &mut Vec<Lit>,
     lits: &[Lit],
 ) -> Result<(), AllocError>
+    requires { CountFromOne lits.now }
     ensures { OnOk result (AddsTidy lits.now clauses.old.items clauses.new.items) }
 {
     match tidy(alloc, sorted, lits)? {
@@ -41,6 +45,7 @@ fn add_tidy(
 
 /// The literals in order, each once; nothing where both signs of a variable stand among them.
 fn tidy(alloc: Global, sorted: &mut Vec<Lit>, lits: &[Lit]) -> Result<Option<Clause>, AllocError>
+    requires { CountFromOne lits.now }
     ensures { IfOk result (λ o. MatchOption o (has_both_signs lits.now ≡ true) (λ c. (has_both_signs lits.now ≡ false) × IsTidy lits.now c)) }
 {
     sorted.clear();

@@ -1,7 +1,6 @@
 ghost use Rattle.std.specs.Prelude.{◌≡◌, ◌++◌, ◌||◌, ◌≤◌, ◌<◌, ◌^◌, length, map, filter, IfOk, OnOk, IsSorted};
 ghost use Rattle.ut_logic.specs.Assign.{is_in};
 ghost use Rattle.ut_logic.specs.Item.{item_cmp, item_eq};
-ghost use Rattle.ut_logic.specs.Truth.{mentioned, together};
 ghost use Rattle.ut_logic.specs.Variables.{AreDistinct};
 ghost use Rattle.ut_logic.specs.declared.item.Item as declared;
 ghost use Rattle.clausify.specs.ClauseForm.{var_of};
@@ -11,7 +10,7 @@ ghost use Rattle.clausify.specs.Order as order;
 use indexmap::IndexSet;
 use std::alloc::{AllocError, Global};
 use std::marker::Model;
-use ut_logic::{Fact, Formula, Item};
+use ut_logic::{Fact, Formula, Item, mention_each};
 
 /// The items that variables stand for, in order: the variable of an item is its place from 1.
 #[derive(Drop)]
@@ -144,35 +143,6 @@ pub fn listed(alloc: Global, facts: &[&Fact]) -> Result<Vec<Item>, AllocError>
         items.extend_from_slice(fact.items.as_slice())?;
     }
     Ok(items)
-}
-
-/// Adds the items that the formula mentions.
-#[cycle(mention)]
-pub fn mention(f: &Formula, items: &mut Vec<Item>) -> Result<(), AllocError>
-    ensures { OnOk result (items.new.items ≡ items.old.items ++ mentioned f.now) }
-{
-    match f {
-        Formula::Yes => Ok(()),
-        Formula::No => Ok(()),
-        Formula::Is(item) => {
-            items.push(*item)?;
-            Ok(())
-        }
-        Formula::Neg(inner) => mention(inner.get(), items),
-        Formula::AllOf(list) => mention_each(list.as_slice(), items),
-        Formula::AnyOf(list) => mention_each(list.as_slice(), items),
-    }
-}
-
-/// Adds the items that the formulas mention.
-#[cycle(mention)]
-pub fn mention_each(list: &[Formula], items: &mut Vec<Item>) -> Result<(), AllocError>
-    ensures { OnOk result (items.new.items ≡ items.old.items ++ together (map mentioned list.now)) }
-{
-    for f in list {
-        mention(f, items)?;
-    }
-    Ok(())
 }
 
 /// The items in order, each once.
