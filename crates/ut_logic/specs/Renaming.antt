@@ -1,5 +1,4 @@
 -- Formulas with other items in place of their own. The usual substitution of variables.
-use Rattle.std.specs.Prelude.{List}
 use Rattle.ut_logic.specs.declared.item.Item.{Item}
 use Rattle.ut_logic.specs.declared.formula.Formula.{Formula}
 use Rattle.ut_logic.specs.declared.formula.Formula.TheOpen.{Formula-F}

@@ -1,4 +1,4 @@
--- What is left, behind what is there, gives the whole.
+-- What is left, added to what was found, gives the whole.
 use Rattle.std.proofs.Common.{◌≡◌, ◌++◌, drop, map}
 use Rattle.ut_logic.specs.Truth.{mentioned, together}
 use Rattle.ut_logic.proofs.mentions.+mentions.Given as goal
