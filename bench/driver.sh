@@ -1,7 +1,8 @@
 # Sourced by the timings of single crates: a driver crate over copies of the repository's crates, in a folder of its own.
 
 # new_driver NAME LIBRARIES CRATE ..: makes the folder, which goes with the script, and the crate NAME in it, which uses the
-# CRATEs and the kit's LIBRARIES; the folder is then the current one. The script writes the driver's main.rt.
+# CRATEs and the kit's LIBRARIES; the folder is then the current one. The script writes the driver's main.rt. The crates that
+# the CRATEs stand on are copied too.
 new_driver() {
     driver=$1
     libraries=$2
@@ -9,10 +10,17 @@ new_driver() {
     data=$(mktemp -d)
     trap 'rm -rf "$data"' EXIT
     mkdir "$data/crates"
-    for crate in "$@"; do
-        cp -R "$here/crates/$crate" "$data/crates/$crate"
-        rm -rf "$data/crates/$crate/must-fail"
-        grep "^$crate:" "$here/crates.txt" >>"$data/crates.txt"
+    wanted=$*
+    while [ -n "$wanted" ]; do
+        below=
+        for crate in $wanted; do
+            [ -d "$here/crates/$crate" ] && [ ! -d "$data/crates/$crate" ] || continue
+            cp -R "$here/crates/$crate" "$data/crates/$crate"
+            rm -rf "$data/crates/$crate/must-fail"
+            grep "^$crate:" "$here/crates.txt" >>"$data/crates.txt"
+            below="$below $(sed -n "s/^$crate: *//p" "$here/crates.txt")"
+        done
+        wanted=$below
     done
     cp "$here/HANDLES" "$data/HANDLES"
     cd "$data"

@@ -1,6 +1,7 @@
 -- Joined conditions: the members of the conditions in order, where a constant y has none and an And list has its
 -- members. Rule: Linux kconfig-language, "Menu dependencies"; the shape is this project's.
-use Rattle.std.specs.Prelude.{ℕ, List, [], ◌∷◌, ◌++◌, map}
+use Rattle.std.specs.Prelude.{List, [], ◌∷◌, ◌++◌, map}
+use Rattle.ut_text.specs.Bytes.{Bytes}
 use Rattle.ut_logic.specs.declared.trit.Trit.TheVariants.{Y}
 use Rattle.kconf_entries.specs.declared.expr.Expr.{Expr, out-Expr}
 use Rattle.kconf_entries.specs.declared.expr.Expr.TheOpen.{Expr-F}
@@ -30,5 +31,5 @@ abbrev pub all_of : List Expr → Expr
 all_of es = joined (members_of_all es)
 
 -- all of these names
-abbrev pub all_of_names : List (List ℕ) → Expr
+abbrev pub all_of_names : List Bytes → Expr
 all_of_names names = joined (map (λ name. Name name) names)

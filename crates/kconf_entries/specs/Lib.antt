@@ -1,2 +1,3 @@
 pub mod Joined
 pub mod Written
+pub mod BoolEntries

@@ -3,7 +3,7 @@ use Rattle.std.proofs.Common.{◌≡◌, ℕ, ◌==◌, Bool, true, false, not, 
 use Rattle.std.proofs.lemmas.Grind.{common_steps}
 use Rattle.std.proofs.lemmas.Bool.Decides.{nat_tests}
 use Rattle.std.specs.List.{list_any}
-use Rattle.ut_logic.specs.Text.{text_eq}
+use Rattle.ut_text.specs.Text.{text_eq}
 use Rattle.cpp_blocks.specs.declared.state.MacroState.{MacroState}
 use Rattle.cpp_blocks.specs.Run.{is_defined}
 use Rattle.undertaker.specs.declared.wishes.Wish.{Wish}

@@ -4,7 +4,7 @@ use Rattle.std.proofs.lemmas.Bool.Decides.{nat_tests}
 use Rattle.std.proofs.lemmas.List.Quantifiers.{position-Some}
 use Rattle.std.specs.List.{list_all}
 use Rattle.std.specs.Option.{option_and_then, is_some}
-use Rattle.ut_logic.specs.Text.{text_eq}
+use Rattle.ut_text.specs.Text.{text_eq}
 use Rattle.cpp_directives.specs.declared.directive.Directive.{Directive}
 use Rattle.kconf_tree.specs.Shape.{Shape}
 use Rattle.ut_verdict.specs.declared.word.Word.{Word}

@@ -7,7 +7,7 @@ use Rattle.std.proofs.lemmas.List.Folds.{list_any-append}
 use Rattle.std.specs.Option.{is_some}
 use Rattle.std.proofs.lemmas.List.Quantifiers.{position-Some}
 use Rattle.std.specs.List.{list_any, list_all, flat_map, prefix_len, position_or_len}
-use Rattle.ut_logic.specs.Text.{text_eq}
+use Rattle.ut_text.specs.Text.{text_eq}
 use Rattle.ut_logic.specs.declared.trit.Trit.TheVariants.{Y}
 use Rattle.kconf_entries.specs.declared.expr.Expr.{Expr, out-Expr}
 use Rattle.kconf_entries.specs.declared.expr.Expr.TheOpen.{Expr-F}
@@ -16,7 +16,8 @@ use Rattle.kconf_entries.specs.declared.expr.Expr.TheFolds.{fold_out-Expr, map-E
 use Rattle.kconf_entries.specs.declared.expr.Expr.TheViews.{the_lemmas}
 use Rattle.kconf_entries.specs.declared.entries.ConfigEntry.{ConfigEntry}
 use Rattle.kconf_entries.specs.declared.entries.Entries.{Entries}
-use Rattle.kconf_parse.specs.FirstForm.{entry_of, is_declared}
+use Rattle.kconf_entries.specs.BoolEntries.{bool_entry}
+use Rattle.undertaker.specs.FirstKconfig.Form.{is_declared}
 use Rattle.kconf_entries.specs.Joined.{all_of_names}
 use Rattle.kconf_tree.specs.declared.shape.Symbol.{Symbol}
 use Rattle.kconf_tree.specs.declared.shape.Counts.TheVariants as counts
@@ -94,9 +95,9 @@ nth (e ∷ es) zero lt = (e, inl refl, refl, λ row. refl)
 nth (e ∷ es) (suc k) lt = let r = nth es k (omega arith) in (r.0, inr r.1, r.2, r.3)
 
 first_among : (es : List ConfigEntry) (before : List (List ℕ)) → AreFirst before es → (e : ConfigEntry) → Among e es
-    → (needs : List (List ℕ)) × (e ≡ entry_of e.name needs) × ((d : List (List ℕ)) → ((n : List ℕ) → list_any (text_eq n) before ≡ true → list_any (text_eq n) d ≡ true) → ((n : List ℕ) → list_any (text_eq n) (declared_in es) ≡ true → list_any (text_eq n) d ≡ true) → list_all (is_declared d) needs ≡ true)
+    → (needs : List (List ℕ)) × (e ≡ bool_entry e.name needs) × ((d : List (List ℕ)) → ((n : List ℕ) → list_any (text_eq n) before ≡ true → list_any (text_eq n) d ≡ true) → ((n : List ℕ) → list_any (text_eq n) (declared_in es) ≡ true → list_any (text_eq n) d ≡ true) → list_all (is_declared d) needs ≡ true)
 first_among [] before f e m = absurd m
-first_among (g ∷ es) before f e (inl h) = (f.0, subst (λ (x : ConfigEntry). x ≡ entry_of x.name f.0) (sym h) f.1, λ d old new. wider d old f.0 f.2)
+first_among (g ∷ es) before f e (inl h) = (f.0, subst (λ (x : ConfigEntry). x ≡ bool_entry x.name f.0) (sym h) f.1, λ d old new. wider d old f.0 f.2)
   where
     wider : (d : List (List ℕ)) → ((n : List ℕ) → list_any (text_eq n) before ≡ true → list_any (text_eq n) d ≡ true) → (ns : List (List ℕ)) → list_all (is_declared before) ns ≡ true → list_all (is_declared d) ns ≡ true
     wider d old [] i = refl
@@ -226,7 +227,7 @@ module _ (x : Entries) (first : AreFirst [] x.configs) (no_choices : x.choices �
   symbols = symbols_are es first
 
   -- each entry is one of the form, and what it needs is declared
-  needs_of : (e : ConfigEntry) → Among e es → (needs : List (List ℕ)) × (e ≡ entry_of e.name needs) × (list_all (is_declared (declared_in es)) needs ≡ true)
+  needs_of : (e : ConfigEntry) → Among e es → (needs : List (List ℕ)) × (e ≡ bool_entry e.name needs) × (list_all (is_declared (declared_in es)) needs ≡ true)
   needs_of e m = let r = first_among es [] first e m in (r.0, r.1, r.2 (declared_in es) (λ n h. absurd (none h)) (λ n h. h))
     where
       none : false ≡ true → ⊥
@@ -235,7 +236,7 @@ module _ (x : Entries) (first : AreFirst [] x.configs) (no_choices : x.choices �
   at_symbol : (P : Symbol → Type 0) → P no_symbol → ((e : ConfigEntry) → Among e es → P (alone e)) → (k : ℕ) → P (symbol_at t k)
   at_symbol P d h k = subst (λ (ss : List Symbol). P (get_or ss k no_symbol)) (sym symbols) (get_or-alone P d es h k)
 
-  as_entry : (P : ConfigEntry → Type 0) → ((name : List ℕ) (needs : List (List ℕ)) → P (entry_of name needs)) → (e : ConfigEntry) → Among e es → P e
+  as_entry : (P : ConfigEntry → Type 0) → ((name : List ℕ) (needs : List (List ℕ)) → P (bool_entry name needs)) → (e : ConfigEntry) → Among e es → P e
   as_entry P h e m = let r = needs_of e m in subst P (sym r.1) (h e.name r.0)
 
   number : (name : List ℕ) → number_of t name ≡ position (λ n. text_eq n name) (declared_in es)

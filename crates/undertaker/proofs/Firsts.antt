@@ -3,15 +3,17 @@
 use Rattle.std.proofs.Common.{◌≡◌, ℕ, ◌+◌, ◌-◌, Bool, true, false, not, ◌&&◌, ◌||◌, cond, refl, ap, sym, subst, ◌∙◌, List, [], ◌∷◌, ◌++◌, Option, None, Some, Result, Ok, Err}
 use Rattle.std.proofs.lemmas.List.Folds.{list_any-append}
 use Rattle.std.specs.List.{list_all}
-use Rattle.ut_logic.specs.Text.{text_eq}
+use Rattle.ut_text.specs.Text.{text_eq}
 use Rattle.kconf_entries.specs.declared.entries.ConfigEntry.{ConfigEntry}
 use Rattle.kconf_entries.specs.declared.entries.Entries.{Entries}
-use Rattle.kconf_parse.specs.declared.first_form.Place.{Place}
-use Rattle.kconf_parse.specs.declared.first_form.Place.TheVariants.{Start, Heading, Entry}
-use Rattle.kconf_parse.specs.declared.first_lines.FirstLine.{FirstLine}
-use Rattle.kconf_parse.specs.declared.first_lines.FirstLine.TheVariants.{Config, Prompt, Depends, Other}
-use Rattle.kconf_parse.specs.Lines.{lines_of}
-use Rattle.kconf_parse.specs.FirstForm.{Reading, start, entry_of, is_declared, is_earlier, is_refused, heading, step, at_line, read_lines, first_line, first_tree_of, ◌>>=◌}
+use Rattle.undertaker.specs.declared.first_kconfig.form.Place.{Place}
+use Rattle.undertaker.specs.declared.first_kconfig.form.Place.TheVariants.{Start, Heading, Entry}
+use Rattle.undertaker.specs.declared.first_kconfig.lines.FirstLine.{FirstLine}
+use Rattle.undertaker.specs.declared.first_kconfig.lines.FirstLine.TheVariants.{Config, Prompt, Depends, Other}
+use Rattle.ut_text.specs.Lines.{lines_of}
+use Rattle.ut_text.specs.Results.{◌>>=◌}
+use Rattle.kconf_entries.specs.BoolEntries.{bool_entry}
+use Rattle.undertaker.specs.FirstKconfig.Form.{Reading, start, is_declared, is_earlier, is_refused, heading, step, at_line, read_lines, first_line, first_tree_of}
 use Rattle.undertaker.specs.FirstEntries.{AreFirst}
 use Rattle.undertaker.proofs.Bools.{and_left, and_right, and_both, or_left_false}
 
@@ -78,12 +80,12 @@ first_heading n ls rest declared name es h = by (is_refused declared name) refl 
 
 -- a `config` line that ends an entry
 next_heading : (n : ℕ) (ls : List (List ℕ)) → Rest (n + 1) ls → (before declared : List (List ℕ)) (own : List ℕ) (needs : List (List ℕ)) (name : List ℕ) (es : List ConfigEntry)
-    → StandsAt before declared (Entry own needs) → behind_step n ls (heading declared name (Some (entry_of own needs ∷ []))) ≡ Ok es → AreFirst before es
+    → StandsAt before declared (Entry own needs) → behind_step n ls (heading declared name (Some (bool_entry own needs ∷ []))) ≡ Ok es → AreFirst before es
 next_heading n ls rest before declared own needs name es s h = by (is_refused declared name) refl h
   where
-    by : (b : Bool) → is_refused declared name ≡ b → behind_step n ls (cond b None (Some (record { declared = declared ++ name ∷ []; place = Heading name }, entry_of own needs ∷ []))) ≡ Ok es → AreFirst before es
+    by : (b : Bool) → is_refused declared name ≡ b → behind_step n ls (cond b None (Some (record { declared = declared ++ name ∷ []; place = Heading name }, bool_entry own needs ∷ []))) ≡ Ok es → AreFirst before es
     by true e g = absurd (refused n ls es g)
-    by false e g = let r = ok_then (entry_of own needs ∷ []) (read_lines (n + 1) (record { declared = declared ++ name ∷ []; place = Heading name }) ls) es g in
+    by false e g = let r = ok_then (bool_entry own needs ∷ []) (read_lines (n + 1) (record { declared = declared ++ name ∷ []; place = Heading name }) ls) es g in
         subst (AreFirst before) (sym r.2) (
           needs,
           refl,
@@ -114,7 +116,7 @@ one_line n ls rest before declared (Entry own needs) Other es s h = absurd (refu
 no_lines : (n : ℕ) → Rest n []
 no_lines n before declared Start es s h = subst (AreFirst before) (ok_is [] es h) tt
 no_lines n before declared (Heading own) es s h = absurd (no_err (n - 1) es h)
-no_lines n before declared (Entry own needs) es s h = subst (AreFirst before) (ok_is (entry_of own needs ∷ []) es h) (needs, refl, s.2, s.1, tt)
+no_lines n before declared (Entry own needs) es s h = subst (AreFirst before) (ok_is (bool_entry own needs ∷ []) es h) (needs, refl, s.2, s.1, tt)
 
 lines_give : (ls : List (List ℕ)) (n : ℕ) → Rest n ls
 lines_give [] n before declared place es s h = no_lines n before declared place es s h

@@ -15,7 +15,7 @@ use Rattle.undertaker.specs.declared.wishes.Meaning.TheVariants.{Free, Symbol, M
 use Rattle.undertaker.specs.Dependencies.{Graph, IsLeastClosed, is_among}
 use Rattle.undertaker.specs.FirstTrees.{Shows}
 use Rattle.undertaker.specs.Marks.{is_marked, Marked}
-use Rattle.ut_logic.specs.Text.{text_eq}
+use Rattle.ut_text.specs.Text.{text_eq}
 use Rattle.ut_verdict.specs.declared.word.Word.{Word}
 use Rattle.undertaker.specs.declared.steps.Step.{Step}
 use Rattle.undertaker.specs.declared.steps.Step.TheVariants.{Opens, Closes}

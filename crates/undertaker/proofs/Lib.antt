@@ -1,3 +1,6 @@
+pub mod NameTexts
+pub mod FirstKconfig
+pub mod FirstSource
 pub mod Bools
 pub mod Trees
 pub mod Texts

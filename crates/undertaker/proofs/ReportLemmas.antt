@@ -1,63 +1,53 @@
 -- The lines of a run are the report on its source.
-use Rattle.std.proofs.Common.{◌≡◌, ◌∙◌, ℕ, List, [], ◌∷◌, ap, sym, subst, refl, Option, Some, None, Result, Ok, Err}
-use Rattle.std.specs.Prelude.{IfOk, OnOk, IfSome, MatchResult, Vec}
+use Rattle.std.proofs.Common.{◌≡◌, ◌∙◌, ℕ, List, [], ◌∷◌, map, ap, sym, subst, refl, Option, Some, None, Result, Ok, Err}
+use Rattle.std.specs.Prelude.{IfOk, IfSome, MatchResult, Vec}
 use Rattle.std.specs.List.{concat}
 use Rattle.std.specs.FinMap.{get}
 use Rattle.std.specs.declared.alloc.Global.{Global}
 use Rattle.std.specs.declared.alloc.AllocError.{AllocError}
 use Rattle.ut_base.specs.Outside.{Held}
 use Rattle.kconf_entries.specs.declared.entries.Entries.{Entries}
-use Rattle.cpp_directives.specs.declared.bad.CppBad.{CppBad}
-use Rattle.cpp_directives.specs.declared.bad.CppBad.TheVariants as cpp
 use Rattle.cpp_directives.specs.declared.directive.Directive.{Directive}
-use Rattle.cpp_read.specs.FirstForm.{first_directives_of}
-use Rattle.cpp_read.specs.Refusals.{Fails}
+use Rattle.undertaker.specs.FirstSource.Form.{first_directives_of}
+use Rattle.undertaker.specs.FirstSource.Reading.{Fails}
+use Rattle.undertaker.specs.declared.first_bad.FirstBad.{FirstBad}
+use Rattle.undertaker.specs.declared.first_bad.FirstBad.TheVariants.{NotYet}
 use Rattle.kconf_tree.specs.Shape.{Shape}
 use Rattle.kconf_tree.specs.Gathered.{gathered}
 use Rattle.ut_verdict.specs.declared.word.Word.{Word}
-use Rattle.ut_report.specs.Report.{Words, Refusal, AreWords}
+use Rattle.ut_report.specs.Report.{Words, AreWords}
 use Rattle.undertaker.specs.Words.{names_in}
-use Rattle.undertaker.specs.Lines.{lines_on}
-use Rattle.undertaker.specs.Outcome.{outcome_of, outcome_for, entries_of, taken, ◌>>=◌}
-use Rattle.undertaker.specs.Written.{AreLinesOn, IsText, none_spent}
-use Rattle.undertaker.specs.Gather.{Gathers, Refuses, IsFault, ReadsEntries}
+use Rattle.undertaker.specs.Lines.{ended, lines_on}
+use Rattle.ut_text.specs.Results.{◌>>=◌}
+use Rattle.undertaker.specs.Outcome.{outcome_of, outcome_for, entries_of, taken}
+use Rattle.undertaker.specs.Written.{AreLinesOn, IsText, IsTextOn, none_spent, refused_lines}
+use Rattle.undertaker.specs.Gather.{Gathers, Refuses, ReadsEntries}
 use Rattle.undertaker.specs.declared.bad.Bad.{Bad}
 use Rattle.undertaker.specs.declared.bad.Bad.TheVariants as bad
 
 -- lines made of right words are right
 pub on_words : (tree : Shape) (name : List ℕ) (ds : List Directive) (ws : List Word) (r : Result (Vec (List ℕ) Global) AllocError)
-    → AreWords tree ds (none_spent 0) ws → IfOk r (λ lines. lines.items ≡ lines_on name (Words ws)) → IfOk r (λ lines. AreLinesOn tree name (Ok ds) lines.items)
-on_words tree name ds ws (Ok lines) right e = (Words ws, right, e)
+    → AreWords tree ds (none_spent 0) ws → IfOk r (λ lines. lines.items ≡ lines_on name ws) → IfOk r (λ lines. AreLinesOn tree name (Ok ds) lines.items)
+on_words tree name ds ws (Ok lines) right e = (ws, right, e)
 on_words tree name ds ws (Err x) right e = tt
 
--- a refusal that isn't want of memory is what was read
-pub fails_so : {Y : Type 0} (b : CppBad) (read : Result Y CppBad) → Fails b read → IsFault b → read ≡ Err b
-fails_so (cpp.NotYet n) read f i = f
-fails_so (cpp.Unbalanced n) read f i = f
-fails_so (cpp.ElseTwice n) read f i = f
-fails_so (cpp.Depth n) read f i = f
-fails_so (cpp.TooMany n) read f i = f
-fails_so (cpp.NoName n) read f i = f
-fails_so (cpp.Condition n) read f i = f
-fails_so (cpp.Unclosed n) read f i = f
-fails_so cpp.Oom read f i = absurd i
+-- the text of right lines is right
+text_on : (tree : Shape) (name : List ℕ) (read : Result (List Directive) ℕ) (lines : List (List ℕ)) → AreLinesOn tree name read lines → IsTextOn tree name read (concat lines)
+text_on tree name (Ok ds) lines are = record { said = (name, Words are.0) ∷ []; right = (refl, are.1, tt); lines = ap concat are.2 }
+text_on tree name (Err n) lines are = ap concat are
 
--- the text of right lines is the report
-pub is_text : (entries : Entries) (name bytes : List ℕ) (lines : List (List ℕ)) → AreLinesOn (gathered entries) name (first_directives_of bytes) lines
+is_text : (entries : Entries) (name bytes : List ℕ) (lines : List (List ℕ)) → AreLinesOn (gathered entries) name (first_directives_of bytes) lines
     → IsText (record { entries = entries; source = record { name = name; read = first_directives_of bytes } }) (concat lines)
-is_text entries name bytes lines are = record {
-  said = (name, are.0) ∷ [];
-  right = (refl, are.1, tt);
-  lines = ap concat are.2;
-}
+is_text entries name bytes lines are = text_on (gathered entries) name (first_directives_of bytes) lines are
 
 -- a refused source's lines are right
-pub on_refusal : (tree : Shape) (name : List ℕ) (b : CppBad) (read : Result (List Directive) CppBad) (r : Result (Vec (List ℕ) Global) AllocError)
-    → Fails b read → OnOk r (IsFault b) → IfOk r (λ lines. lines.items ≡ lines_on name (Refusal b)) → IfOk r (λ lines. AreLinesOn tree name read lines.items)
-on_refusal tree name b read (Ok lines) fails fault e =
-    let at : Result (List Directive) CppBad → Type 0 = λ x. AreLinesOn tree name x lines.items in
-    subst at (sym (fails_so b read fails fault)) (Refusal b, refl, e)
-on_refusal tree name b read (Err x) fails fault e = tt
+pub on_refusal : (tree : Shape) (name : List ℕ) (found : FirstBad) (n : ℕ) (read : Result (List Directive) ℕ) (r : Result (Vec (List ℕ) Global) AllocError)
+    → found ≡ NotYet n → Fails found read → IfOk r (λ lines. lines.items ≡ map ended (refused_lines name n)) → IfOk r (λ lines. AreLinesOn tree name read lines.items)
+on_refusal tree name found n read (Ok lines) is fails e =
+    let named : Fails (NotYet n) read = subst (λ (b : FirstBad). Fails b read) is fails in
+    let at : Result (List Directive) ℕ → Type 0 = λ x. AreLinesOn tree name x lines.items in
+    subst at (sym named) e
+on_refusal tree name found n read (Err x) is fails e = tt
 
 module _ (words : List (List ℕ)) (names : List ℕ × List ℕ) (named : names_in words ≡ Some names) (entries : Entries) (bytes : List ℕ) (held : Held)
     (e : entries_of names.0 (get held names.0) ≡ Ok entries) (t : taken names.1 (get held names.1) ≡ Ok bytes) where

@@ -3,7 +3,7 @@ use Rattle.std.proofs.Common.{◌≡◌, ℕ, ◌<◌, zero, suc, List, [], ◌�
 use Rattle.std.proofs.lemmas.List.{length-map}
 use Rattle.std.proofs.lemmas.List.Quantifiers.{position-Some}
 use Rattle.std.specs.List.{All, cons_option}
-use Rattle.ut_logic.specs.Text.{text_eq}
+use Rattle.ut_text.specs.Text.{text_eq}
 use Rattle.kconf_entries.specs.declared.entries.ConfigEntry.{ConfigEntry}
 use Rattle.undertaker.specs.Names.{number_among}
 use Rattle.undertaker.specs.Dependencies.{names_in, numbers_of, declared_in, rows_of, AreRows}

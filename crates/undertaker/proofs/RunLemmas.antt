@@ -3,7 +3,7 @@ use Rattle.std.proofs.Common.{ℕ, List, inl, inr, sym, subst, Option, Some, Non
 use Rattle.std.specs.Prelude.{IfSome, codes}
 use Rattle.ut_base.specs.declared.limits.Limit.TheVariants.{FileBytes, AllBytes}
 use Rattle.ut_base.specs.declared.meter.TakeBad.TheVariants as take
-use Rattle.kconf_parse.specs.declared.bad.KconfBad.TheVariants as kconf
+use Rattle.undertaker.specs.declared.first_kconfig.bad.KconfigBad.TheVariants as kconf
 use Rattle.undertaker.specs.declared.bad.Bad.{Bad}
 use Rattle.undertaker.specs.declared.bad.Bad.TheVariants as bad
 use Rattle.undertaker.specs.declared.status.Status.{Status}
@@ -21,12 +21,9 @@ if_told f (Some x) p = f x p
 -- it has one of these statuses
 not_written : (old new : Option (List ℕ)) (outcome : Result Texts Refusal) (b : Bad) → Writes old new outcome (bad_status b)
 not_written old new outcome bad.Usage = tt
-not_written old new outcome (bad.Kconfig (kconf.Syntax f l k)) = tt
 not_written old new outcome (bad.Kconfig (kconf.NotYet f l)) = tt
 not_written old new outcome (bad.Kconfig (kconf.Missing f)) = tt
 not_written old new outcome (bad.Kconfig (kconf.ReadFault f)) = tt
-not_written old new outcome (bad.Kconfig (kconf.Macro f l)) = tt
-not_written old new outcome (bad.Kconfig (kconf.Depth f l w)) = tt
 not_written old new outcome (bad.Kconfig (kconf.TooLarge w c)) = tt
 not_written old new outcome (bad.Kconfig kconf.Oom) = tt
 not_written old new outcome (bad.Source n take.Missing) = tt
@@ -43,12 +40,9 @@ refused_writes old new outcome b s (inr e) = let at : Status → Type 0 = λ s. 
 -- and the outcome is that refusal
 ends_by : (outcome : Result Texts Refusal) (b : Bad) → Refuses outcome b → EndsBy outcome (bad_status b)
 ends_by outcome bad.Usage r = r
-ends_by outcome (bad.Kconfig (kconf.Syntax f l k)) r = absurd r
 ends_by outcome (bad.Kconfig (kconf.NotYet f l)) r = (f, l, r)
 ends_by outcome (bad.Kconfig (kconf.Missing f)) r = (f, r)
 ends_by outcome (bad.Kconfig (kconf.ReadFault f)) r = tt
-ends_by outcome (bad.Kconfig (kconf.Macro f l)) r = absurd r
-ends_by outcome (bad.Kconfig (kconf.Depth f l w)) r = absurd r
 ends_by outcome (bad.Kconfig (kconf.TooLarge w c)) r = (w, c, r)
 ends_by outcome (bad.Kconfig kconf.Oom) r = tt
 ends_by outcome (bad.Source n take.Missing) r = (n, r)
@@ -67,12 +61,9 @@ module _ {E : Type 0} (taken : E → Option (List ℕ)) (faults : E → ℕ) (ol
   tells_outcome : (outcome : Result Texts Refusal) (b : Bad) → Refuses outcome b → Tells taken faults old new (line_at b (bad_status b))
       → TellsOutcome taken faults old new outcome (bad_status b)
   tells_outcome outcome bad.Usage r t = t
-  tells_outcome outcome (bad.Kconfig (kconf.Syntax f l k)) r t = absurd r
   tells_outcome outcome (bad.Kconfig (kconf.NotYet f l)) r t = (refused f l, r, t)
   tells_outcome outcome (bad.Kconfig (kconf.Missing f)) r t = (missing f, r, t)
   tells_outcome outcome (bad.Kconfig (kconf.ReadFault f)) r t = tt
-  tells_outcome outcome (bad.Kconfig (kconf.Macro f l)) r t = absurd r
-  tells_outcome outcome (bad.Kconfig (kconf.Depth f l w)) r t = absurd r
   tells_outcome outcome (bad.Kconfig (kconf.TooLarge w c)) r t = (limit w c, r, t)
   tells_outcome outcome (bad.Kconfig kconf.Oom) r t = tt
   tells_outcome outcome (bad.Source n take.Missing) r t = (missing n, r, t)
@@ -94,12 +85,9 @@ module _ {E : Type 0} (taken : E → Option (List ℕ)) (faults : E → ℕ) (ol
   tells_one : (A : Type 0) (names : Option (List ℕ × List ℕ)) (b : Bad) → Names {A = A} names (Err b) → Tells taken faults old new (line_at b (bad_status b))
       → TellsOne taken faults old new names (bad_status b)
   tells_one A names bad.Usage n t = t
-  tells_one A names (bad.Kconfig (kconf.Syntax f l k)) n t = absurd n.2
   tells_one A names (bad.Kconfig (kconf.NotYet f l)) n t = (n.0, l, n.1, subst (λ x. Tells taken faults old new (placed_line x l (codes "not yet"))) n.2 t)
   tells_one A names (bad.Kconfig (kconf.Missing f)) n t = (n.0, n.1, inl (subst (λ x. Tells taken faults old new (named_line x (codes "missing"))) n.2 t))
   tells_one A names (bad.Kconfig (kconf.ReadFault f)) n t = (n.0, n.1, inl (subst (λ x. Tells taken faults old new (named_line x (codes "read fault"))) n.2 t))
-  tells_one A names (bad.Kconfig (kconf.Macro f l)) n t = absurd n.2
-  tells_one A names (bad.Kconfig (kconf.Depth f l w)) n t = absurd n.2
   tells_one A names (bad.Kconfig (kconf.TooLarge w c)) n t =
       subst (λ x. Tells taken faults old new (limit_line FileBytes x)) n.2.1 (subst (λ x. Tells taken faults old new (limit_line x c)) n.2.0 t)
   tells_one A names (bad.Kconfig kconf.Oom) n t = t

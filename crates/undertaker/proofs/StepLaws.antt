@@ -6,7 +6,7 @@ use Rattle.std.proofs.Math.Seq.{get_or-append_seam}
 use Rattle.std.proofs.lemmas.Bool.{cases_lt}
 use Rattle.std.proofs.lemmas.Cmp.{nat_list_eq_equiv}
 use Rattle.std.specs.List.{list_any}
-use Rattle.ut_logic.specs.Text.{text_eq}
+use Rattle.ut_text.specs.Text.{text_eq}
 use Rattle.cpp_directives.specs.declared.condition.Cond.{Cond, out-Cond}
 use Rattle.cpp_directives.specs.declared.condition.Cond.TheOpen.{Cond-F}
 use Rattle.cpp_directives.specs.declared.condition.Cond.TheVariants.{Defined, Neg}

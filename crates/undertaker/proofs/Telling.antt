@@ -5,12 +5,13 @@ use Rattle.std.specs.FinMap.{get}
 use Rattle.ut_base.specs.Outside.{Held}
 use Rattle.ut_base.specs.declared.limits.Limit.TheVariants.{FileBytes}
 use Rattle.kconf_entries.specs.declared.entries.Entries.{Entries}
-use Rattle.kconf_parse.specs.FirstForm.{first_tree_of}
-use Rattle.kconf_parse.proofs.FirstBadLineLemmas as kconf
-use Rattle.cpp_read.specs.FirstForm.{first_directives_of}
-use Rattle.cpp_read.proofs.FirstBadLineLemmas as cpp
+use Rattle.undertaker.specs.FirstKconfig.Form.{first_tree_of}
+use Rattle.undertaker.proofs.FirstKconfig.BadLineLemmas as first_kconfig
+use Rattle.undertaker.specs.FirstSource.Form.{first_directives_of}
+use Rattle.undertaker.proofs.FirstSource.BadLineLemmas as first_source
 use Rattle.ut_verdict.specs.Verdicts.{IsDead, IsUndead}
-use Rattle.undertaker.specs.Outcome.{Texts, Refusal, limit, taken, named, outcome_for, outcome_of, ◌>>=◌}
+use Rattle.ut_text.specs.Results.{◌>>=◌}
+use Rattle.undertaker.specs.Outcome.{limit, taken, named, outcome_for, outcome_of}
 use Rattle.undertaker.specs.Words.{names_in}
 use Rattle.undertaker.specs.Told.{LiveIsNeither, NamesBadLine}
 
@@ -34,7 +35,7 @@ live_is_neither t ds block right = (not_dead, not_undead)
 source_taken : (held : Held) (entries : Entries) (name bytes : List ℕ) → get held name ≡ Some bytes → (fits : Bool) →
     NamesBadLine held ((if fits then Ok bytes else Err (limit FileBytes 16777217)) >>= λ text. Ok (record { entries = entries; source = record { name = name; read = first_directives_of text } }))
 source_taken held entries name bytes has false = tt
-source_taken held entries name bytes has true = λ n bad. (bytes, has, cpp.is_named bytes n bad)
+source_taken held entries name bytes has true = λ n bad. (bytes, has, first_source.is_named bytes n bad)
 
 -- the source behind the entries
 source_named : (held : Held) (entries : Entries) (name : List ℕ) (content : Option (List ℕ)) → get held name ≡ content →
@@ -46,7 +47,7 @@ source_named held entries name (Some bytes) has = source_taken held entries name
 kconfig_read : (held : Held) (kconfig source bytes : List ℕ) → get held kconfig ≡ Some bytes → (read : Result Entries ℕ) → first_tree_of bytes ≡ read →
     NamesBadLine held (named kconfig read >>= λ entries. taken source (get held source) >>= λ text. Ok (record { entries = entries; source = record { name = source; read = first_directives_of text } }))
 kconfig_read held kconfig source bytes has (Ok entries) is = source_named held entries source (get held source) refl
-kconfig_read held kconfig source bytes has (Err n) is = (bytes, has, kconf.is_named bytes n is)
+kconfig_read held kconfig source bytes has (Err n) is = (bytes, has, first_kconfig.is_named bytes n is)
 
 kconfig_taken : (held : Held) (kconfig source bytes : List ℕ) → get held kconfig ≡ Some bytes → (fits : Bool) →
     NamesBadLine held (((if fits then Ok bytes else Err (limit FileBytes 16777217)) >>= λ text. named kconfig (first_tree_of text))

@@ -1,7 +1,7 @@
 -- What a tree of the first form comes to: bool symbols with one prompt each, whose condition joins the symbols
 -- that it depends on, and nothing else. This project's rule.
 use Rattle.std.specs.Prelude.{◌≡◌, ℕ, ◌<◌, false, List, [], ◌∷◌, length, map, position}
-use Rattle.ut_logic.specs.Text.{text_eq}
+use Rattle.ut_text.specs.Text.{text_eq}
 use Rattle.kconf_tree.specs.declared.shape.Counts.TheVariants as counts
 use Rattle.kconf_tree.specs.Shape.{Shape, symbol_at, counts_as, is_member, number_of}
 use Rattle.kconf_tree.specs.Value.{Configuration, least, is_text_or_number}

@@ -1,15 +1,14 @@
 -- What the steps of a run promise each other: what they read, or why the run ends.
-use Rattle.std.specs.Prelude.{◌≡◌, ℕ, List, Option, Some, None, Vec, Result, Ok, Err}
+use Rattle.std.specs.Prelude.{◌≡◌, ℕ, Option, Some, None, Vec, Result, Ok, Err}
 use Rattle.std.specs.List.{concat}
 use Rattle.std.specs.declared.alloc.Global.{Global}
+use Rattle.ut_text.specs.Bytes.{Bytes}
 use Rattle.ut_base.specs.declared.limits.Limit.TheVariants.{FileBytes, AllBytes}
 use Rattle.ut_base.specs.declared.meter.TakeBad.{TakeBad}
 use Rattle.ut_base.specs.declared.meter.TakeBad.TheVariants as take
-use Rattle.kconf_parse.specs.declared.bad.KconfBad.{KconfBad}
-use Rattle.kconf_parse.specs.declared.bad.KconfBad.TheVariants as kconf
+use Rattle.undertaker.specs.declared.first_kconfig.bad.KconfigBad.{KconfigBad}
+use Rattle.undertaker.specs.declared.first_kconfig.bad.KconfigBad.TheVariants as kconf
 use Rattle.kconf_entries.specs.declared.entries.Entries.{Entries}
-use Rattle.cpp_directives.specs.declared.bad.CppBad.{CppBad}
-use Rattle.cpp_directives.specs.declared.bad.CppBad.TheVariants as cpp
 use Rattle.undertaker.specs.Outcome.{Refusal, usage, refused, missing, limit, Texts, taken, entries_of}
 use Rattle.undertaker.specs.Refusals.{bad_status}
 use Rattle.undertaker.specs.Written.{IsText}
@@ -24,20 +23,19 @@ module _ {A : Type 0} where
   EndsAs (Err b) s = bad_status b ≡ s
 
   -- the refusal is this one; a fault and want of memory may come in its place
-  abbrev pub TakeRefuses : Result A Refusal → List ℕ → TakeBad → Type 0
+  abbrev pub TakeRefuses : Result A Refusal → Bytes → TakeBad → Type 0
   TakeRefuses outcome name take.Missing = outcome ≡ Err (missing name)
   TakeRefuses outcome name take.Fault = Unit {0}
   TakeRefuses outcome name take.FileTooLong = outcome ≡ Err (limit FileBytes 16777217)
   TakeRefuses outcome name (take.AllTooLong count) = outcome ≡ Err (limit AllBytes count)
   TakeRefuses outcome name take.Oom = Unit {0}
 
-  abbrev pub KconfRefuses : Result A Refusal → KconfBad → Type 0
+  abbrev pub KconfRefuses : Result A Refusal → KconfigBad → Type 0
   KconfRefuses outcome (kconf.NotYet file line) = outcome ≡ Err (refused file line)
   KconfRefuses outcome (kconf.Missing file) = outcome ≡ Err (missing file)
   KconfRefuses outcome (kconf.ReadFault file) = Unit {0}
   KconfRefuses outcome (kconf.TooLarge what count) = outcome ≡ Err (limit what count)
   KconfRefuses outcome kconf.Oom = Unit {0}
-  KconfRefuses outcome other = ⊥
 
   abbrev pub Refuses : Result A Refusal → Bad → Type 0
   Refuses outcome bad.Usage = outcome ≡ Err usage
@@ -46,31 +44,30 @@ module _ {A : Type 0} where
   Refuses outcome bad.Oom = Unit {0}
 
 -- the Kconfig text was taken, and has these entries
-abbrev pub ReadsEntries : List ℕ → Option (List ℕ) → Result Entries Bad → Type 0
+abbrev pub ReadsEntries : Bytes → Option Bytes → Result Entries Bad → Type 0
 ReadsEntries name content (Ok entries) = entries_of name content ≡ Ok entries
 ReadsEntries name content (Err b) = Refuses (entries_of name content) b
 
 -- the source was taken
-abbrev pub ReadsSource : List ℕ → Option (List ℕ) → Result (Vec ℕ Global) Bad → Type 0
+abbrev pub ReadsSource : Bytes → Option Bytes → Result (Vec ℕ Global) Bad → Type 0
 ReadsSource name content (Ok bytes) = taken name content ≡ Ok bytes.items
 ReadsSource name content (Err b) = Refuses (taken name content) b
 
 -- the lines of the text, or why there are none
-abbrev pub Gathers : Result Texts Refusal → Result (Vec (List ℕ) Global) Bad → Type 0
+abbrev pub Gathers : Result Texts Refusal → Result (Vec Bytes Global) Bad → Type 0
 Gathers outcome (Ok lines) = (texts : Texts) × (outcome ≡ Ok texts) × IsText texts (concat lines.items)
 Gathers outcome (Err b) = Refuses outcome b
 
 -- which file a refusal of the Kconfig text names, and which limit it passes
-abbrev pub KconfNames : List ℕ → KconfBad → Type 0
+abbrev pub KconfNames : Bytes → KconfigBad → Type 0
 KconfNames name (kconf.NotYet file line) = file ≡ name
 KconfNames name (kconf.Missing file) = file ≡ name
 KconfNames name (kconf.ReadFault file) = file ≡ name
 KconfNames name (kconf.TooLarge what count) = (what ≡ FileBytes) × (count ≡ 16777217)
 KconfNames name kconf.Oom = Unit {0}
-KconfNames name other = ⊥
 
 -- one source behind one Kconfig text can't pass the limit on all bytes
-abbrev pub TakeNames : List ℕ → List ℕ → TakeBad → Type 0
+abbrev pub TakeNames : Bytes → Bytes → TakeBad → Type 0
 TakeNames source name (take.AllTooLong count) = ⊥
 TakeNames source name take.Missing = source ≡ name
 TakeNames source name take.Fault = source ≡ name
@@ -79,40 +76,28 @@ TakeNames source name take.Oom = source ≡ name
 
 module _ {A : Type 0} where
   -- a refusal names the files that the words name, and the words are refused where they name none
-  abbrev pub Names : Option (List ℕ × List ℕ) → Result A Bad → Type 0
-  Names names (Ok x) = (pair : List ℕ × List ℕ) × (names ≡ Some pair)
+  abbrev pub Names : Option (Bytes × Bytes) → Result A Bad → Type 0
+  Names names (Ok x) = (pair : Bytes × Bytes) × (names ≡ Some pair)
   Names names (Err bad.Usage) = names ≡ None
-  Names names (Err (bad.Kconfig b)) = (pair : List ℕ × List ℕ) × (names ≡ Some pair) × KconfNames pair.0 b
-  Names names (Err (bad.Source name b)) = (pair : List ℕ × List ℕ) × (names ≡ Some pair) × TakeNames pair.1 name b
+  Names names (Err (bad.Kconfig b)) = (pair : Bytes × Bytes) × (names ≡ Some pair) × KconfNames pair.0 b
+  Names names (Err (bad.Source name b)) = (pair : Bytes × Bytes) × (names ≡ Some pair) × TakeNames pair.1 name b
   Names names (Err bad.Oom) = Unit {0}
 
   -- the same for the Kconfig text and for the source alone
-  abbrev pub NamesKconfig : List ℕ → Result A Bad → Type 0
+  abbrev pub NamesKconfig : Bytes → Result A Bad → Type 0
   NamesKconfig name (Ok x) = Unit {0}
   NamesKconfig name (Err (bad.Kconfig b)) = KconfNames name b
   NamesKconfig name (Err b) = ⊥
 
-  abbrev pub NamesSource : List ℕ → Result A Bad → Type 0
+  abbrev pub NamesSource : Bytes → Result A Bad → Type 0
   NamesSource source (Ok x) = Unit {0}
   NamesSource source (Err (bad.Source name b)) = TakeNames source name b
   NamesSource source (Err bad.Oom) = Unit {0}
   NamesSource source (Err b) = ⊥
 
 -- the source was not taken, or there was no memory for its name
-abbrev pub IsBadOf : List ℕ → TakeBad → Bad → Type 0
+abbrev pub IsBadOf : Bytes → TakeBad → Bad → Type 0
 IsBadOf source b bad.Usage = ⊥
 IsBadOf source b (bad.Kconfig k) = ⊥
 IsBadOf source b (bad.Source name found) = (source ≡ name) × (found ≡ b)
 IsBadOf source b bad.Oom = Unit {0}
-
--- a source's own fault, and not want of memory
-abbrev pub IsFault : CppBad → Type 0
-IsFault (cpp.NotYet line) = Unit {0}
-IsFault (cpp.Unbalanced line) = Unit {0}
-IsFault (cpp.ElseTwice line) = Unit {0}
-IsFault (cpp.Depth line) = Unit {0}
-IsFault (cpp.TooMany line) = Unit {0}
-IsFault (cpp.NoName line) = Unit {0}
-IsFault (cpp.Condition line) = Unit {0}
-IsFault (cpp.Unclosed line) = Unit {0}
-IsFault cpp.Oom = ⊥

@@ -16,7 +16,7 @@ use Rattle.undertaker.specs.declared.steps.Step.TheVariants.{Opens, Closes}
 use Rattle.undertaker.specs.Dependencies.{Graph}
 use Rattle.undertaker.specs.FirstTrees.{Shows}
 use Rattle.undertaker.specs.Steps.{wishes_in, asked_from}
-use Rattle.ut_logic.specs.Text.{text_eq}
+use Rattle.ut_text.specs.Text.{text_eq}
 use Rattle.undertaker.specs.Wishes.{Among, macro_of, meaning_of, are_met, turned}
 
 -- wishes on one name have one number

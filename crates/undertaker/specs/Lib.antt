@@ -1,3 +1,7 @@
+-- the first forms of texts
+pub mod FirstKconfig
+pub mod FirstSource
+-- a run
 pub mod Status
 pub mod Words
 pub mod Outcome

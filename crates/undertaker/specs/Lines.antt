@@ -1,11 +1,13 @@
 -- Lines of output, each with its newline. This project's rule.
-use Rattle.std.specs.Prelude.{ℕ, List, [], ◌∷◌, ◌++◌, map}
-use Rattle.ut_report.specs.Report.{Said, report_lines}
+use Rattle.std.specs.Prelude.{List, [], ◌∷◌, ◌++◌, map}
+use Rattle.ut_text.specs.Bytes.{Bytes}
+use Rattle.ut_verdict.specs.declared.word.Word.{Word}
+use Rattle.ut_report.specs.Report.{Words, report_lines}
 
 -- a line with its newline
-abbrev pub ended : List ℕ → List ℕ
+abbrev pub ended : Bytes → Bytes
 ended line = line ++ 10 ∷ []
 
--- the lines of the report on one source, in which no question is undecided
-abbrev pub lines_on : List ℕ → Said → List (List ℕ)
-lines_on name said = map ended (report_lines 0 ((name, said) ∷ []))
+-- the lines of the report on one source whose blocks have these words, of which none is undecided
+abbrev pub lines_on : Bytes → List Word → List Bytes
+lines_on name words = map ended (report_lines 0 ((name, Words words) ∷ []))

@@ -1,12 +1,13 @@
 -- Names in order of first appearance, each once, and their numbers.
 use Rattle.std.specs.Prelude.{ℕ, List, [], ◌∷◌, ◌++◌, Option, position, if◌then◌else◌}
 use Rattle.std.specs.List.{list_any}
-use Rattle.ut_logic.specs.Text.{text_eq}
+use Rattle.ut_text.specs.Bytes.{Bytes}
+use Rattle.ut_text.specs.Text.{text_eq}
 
 -- the place of a name
-abbrev pub number_among : List (List ℕ) → List ℕ → Option ℕ
+abbrev pub number_among : List Bytes → Bytes → Option ℕ
 number_among names name = position (λ n. text_eq n name) names
 
 -- the names, with this one behind them if it is new
-abbrev pub with_name : List (List ℕ) → List ℕ → List (List ℕ)
+abbrev pub with_name : List Bytes → Bytes → List Bytes
 with_name names name = if list_any (text_eq name) names then names else names ++ name ∷ []

@@ -1,55 +1,34 @@
 -- The status and the line on `err` of a run that ends before its text is made. This project's rule.
-use Rattle.std.specs.Prelude.{ℕ, List, ◌++◌, codes}
-use Rattle.ut_base.specs.Limits.{limit_word}
+use Rattle.std.specs.Prelude.{codes}
+use Rattle.ut_text.specs.Bytes.{Bytes}
 use Rattle.ut_base.specs.declared.limits.Limit.TheVariants.{FileBytes, AllBytes}
 use Rattle.ut_base.specs.declared.meter.TakeBad.{TakeBad}
 use Rattle.ut_base.specs.declared.meter.TakeBad.TheVariants as take
-use Rattle.kconf_parse.specs.declared.bad.KconfBad.{KconfBad}
-use Rattle.kconf_parse.specs.declared.bad.KconfBad.TheVariants as kconf
-use Rattle.kconf_parse.specs.declared.bad.SyntaxKind.{SyntaxKind}
-use Rattle.kconf_parse.specs.declared.bad.SyntaxKind.TheVariants as kind
+use Rattle.undertaker.specs.declared.first_kconfig.bad.KconfigBad.{KconfigBad}
+use Rattle.undertaker.specs.declared.first_kconfig.bad.KconfigBad.TheVariants as kconf
 use Rattle.undertaker.specs.ErrLines.{named_line, placed_line, limit_line}
 use Rattle.undertaker.specs.declared.bad.Bad.{Bad}
 use Rattle.undertaker.specs.declared.bad.Bad.TheVariants as bad
 use Rattle.undertaker.specs.declared.status.Status.{Status}
 use Rattle.undertaker.specs.declared.status.Status.TheVariants as status
 
--- the word of a fault in a Kconfig line
-abbrev pub kind_text : SyntaxKind → List ℕ
-kind_text kind.Quote = codes "quote"
-kind_text kind.Bracket = codes "bracket"
-kind_text kind.Word = codes "word"
-kind_text kind.Attribute = codes "attribute"
-kind_text kind.Expression = codes "expression"
-kind_text kind.Named = codes "name"
-kind_text kind.Extra = codes "extra"
-kind_text kind.End = codes "end"
-kind_text kind.Unclosed = codes "unclosed"
-kind_text kind.Choice = codes "choice"
-
 -- a Kconfig text that was not read
-abbrev pub kconf_line : KconfBad → List ℕ
-kconf_line (kconf.Syntax file line k) = placed_line file line (kind_text k)
+abbrev pub kconf_line : KconfigBad → Bytes
 kconf_line (kconf.NotYet file line) = placed_line file line (codes "not yet")
 kconf_line (kconf.Missing file) = named_line file (codes "missing")
 kconf_line (kconf.ReadFault file) = named_line file (codes "read fault")
-kconf_line (kconf.Macro file line) = placed_line file line (codes "macro")
-kconf_line (kconf.Depth file line what) = placed_line file line (codes "limit: ") ++ limit_word what
 kconf_line (kconf.TooLarge what count) = limit_line what count
 kconf_line kconf.Oom = codes "memory"
 
-abbrev pub kconf_status : KconfBad → Status
-kconf_status (kconf.Syntax file line k) = status.Refused
+abbrev pub kconf_status : KconfigBad → Status
 kconf_status (kconf.NotYet file line) = status.Refused
 kconf_status (kconf.Missing file) = status.Missing
 kconf_status (kconf.ReadFault file) = status.ReadFault
-kconf_status (kconf.Macro file line) = status.Refused
-kconf_status (kconf.Depth file line what) = status.Limit
 kconf_status (kconf.TooLarge what count) = status.Limit
 kconf_status kconf.Oom = status.Memory
 
 -- a source that was not taken
-abbrev pub take_line : List ℕ → TakeBad → List ℕ
+abbrev pub take_line : Bytes → TakeBad → Bytes
 take_line name take.Missing = named_line name (codes "missing")
 take_line name take.Fault = named_line name (codes "read fault")
 take_line name take.FileTooLong = limit_line FileBytes 16777217
@@ -64,7 +43,7 @@ take_status (take.AllTooLong count) = status.Limit
 take_status take.Oom = status.Memory
 
 -- the line of a run that ends so, without its newline
-abbrev pub bad_line : Bad → List ℕ
+abbrev pub bad_line : Bad → Bytes
 bad_line bad.Usage = codes "undertaker: usage: words"
 bad_line (bad.Kconfig b) = kconf_line b
 bad_line (bad.Source name b) = take_line name b

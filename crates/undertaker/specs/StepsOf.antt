@@ -1,6 +1,6 @@
 -- The steps of a source under declared names: each wish has the number of its macro and what its name means.
 use Rattle.std.specs.Prelude.{◌≡◌, ℕ, ◌<◌, true, List, [], ◌∷◌, length, get_or}
-use Rattle.ut_logic.specs.Text.{text_eq}
+use Rattle.ut_text.specs.Text.{text_eq}
 use Rattle.cpp_directives.specs.declared.directive.Directive.{Directive}
 use Rattle.undertaker.specs.declared.steps.Step.{Step}
 use Rattle.undertaker.specs.declared.steps.Step.TheVariants.{Opens, Closes}

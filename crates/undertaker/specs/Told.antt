@@ -1,14 +1,11 @@
 -- What is told of the words of a report and of the lines that a refusal names.
 -- Rule: the EuroSys 2011 paper on Undertaker (dead and undead blocks); which line is named is this project's rule.
-use Rattle.std.specs.Prelude.{◌≡◌, ℕ, true, false, List, Option, Some, Result, Ok, Err}
+use Rattle.std.specs.Prelude.{◌≡◌, ℕ, true, false, List, Some, Result, Ok, Err}
 use Rattle.std.specs.FinMap.{get}
 use Rattle.ut_base.specs.Outside.{Held}
-use Rattle.kconf_parse.specs.FirstBadLine as kconf
-use Rattle.kconf_parse.specs.Lines as kconf_lines
-use Rattle.cpp_directives.specs.declared.bad.CppBad.TheVariants.{NotYet}
+use Rattle.ut_text.specs.Bytes.{Bytes}
+use Rattle.ut_text.specs.Lines.{lines_of}
 use Rattle.cpp_directives.specs.declared.directive.Directive.{Directive}
-use Rattle.cpp_read.specs.FirstBadLine as cpp
-use Rattle.cpp_read.specs.Lines as cpp_lines
 use Rattle.cpp_blocks.specs.Blocks.{parent_of}
 use Rattle.kconf_tree.specs.Shape.{Shape}
 use Rattle.kconf_tree.specs.Valid.{IsValid}
@@ -17,6 +14,8 @@ use Rattle.ut_verdict.specs.declared.question.Family.TheVariants as family
 use Rattle.ut_verdict.specs.declared.word.Word.TheVariants.{Dead, Undead, Live}
 use Rattle.ut_verdict.specs.On.{Case, is_on}
 use Rattle.ut_verdict.specs.Verdicts.{IsDead, IsUndead, IsWordOf}
+use Rattle.undertaker.specs.FirstKconfig.BadLine as kconfig
+use Rattle.undertaker.specs.FirstSource.BadLine as source
 use Rattle.undertaker.specs.Outcome.{Refusal, refused, usage, missing, limit, Texts}
 use Rattle.undertaker.specs.Written.{none_spent}
 
@@ -36,16 +35,16 @@ LiveIsNeither = (t : Shape) (ds : List Directive) (block : ℕ) → IsWordOf t d
     → (¬ IsDead t ds block) × (¬ IsUndead t ds block)
 
 -- the line that is named in a Kconfig text of this name
-abbrev pub NamesInKconfig : Held → List ℕ → ℕ → Type 0
-NamesInKconfig held name n = (bytes : List ℕ) × (get held name ≡ Some bytes) × kconf.IsNamed (kconf_lines.lines_of bytes) n
+abbrev pub NamesInKconfig : Held → Bytes → ℕ → Type 0
+NamesInKconfig held name n = (bytes : Bytes) × (get held name ≡ Some bytes) × kconfig.IsNamed (lines_of bytes) n
 
 -- the line that is named in a source of this name
-abbrev pub NamesInSource : Held → List ℕ → ℕ → Type 0
-NamesInSource held name n = (bytes : List ℕ) × (get held name ≡ Some bytes) × cpp.IsNamed (cpp_lines.lines_of bytes) n
+abbrev pub NamesInSource : Held → Bytes → ℕ → Type 0
+NamesInSource held name n = (bytes : Bytes) × (get held name ≡ Some bytes) × source.IsNamed (lines_of bytes) n
 
 -- a text that is refused is so at the first line with which it can't be continued to its form, or where its end is wrong
 abbrev pub NamesBadLine : Held → Result Texts Refusal → Type 0
-NamesBadLine held (Ok texts) = (n : ℕ) → texts.source.read ≡ Err (NotYet n) → NamesInSource held texts.source.name n
+NamesBadLine held (Ok texts) = (n : ℕ) → texts.source.read ≡ Err n → NamesInSource held texts.source.name n
 NamesBadLine held (Err usage) = Unit {0}
 NamesBadLine held (Err (refused name n)) = NamesInKconfig held name n
 NamesBadLine held (Err (missing name)) = Unit {0}

@@ -1,10 +1,10 @@
 ghost use Rattle.std.specs.Prelude.{◌≡◌, IfOk};
 ghost use Rattle.undertaker.specs.ErrLines.{limit_line, named_line, placed_line};
-ghost use Rattle.undertaker.specs.Refusals.{bad_line, bad_status, kconf_line, kconf_status, kind_text, take_line, take_status};
+ghost use Rattle.undertaker.specs.Refusals.{bad_line, bad_status, kconf_line, kconf_status, take_line, take_status};
 
 use crate::Status;
+use crate::first_kconfig::KconfigBad;
 use itoa::Buffer;
-use kconf_parse::{KconfBad, SyntaxKind};
 use std::alloc::{AllocError, Global};
 use ut_base::{FILE_BYTES, Limit, Name, TakeBad};
 
@@ -15,7 +15,7 @@ pub enum Bad {
     Usage,
 
     /// The Kconfig text was not read.
-    Kconfig(KconfBad),
+    Kconfig(KconfigBad),
 
     /// The source with this name was not taken.
     Source { name: Name, bad: TakeBad },
@@ -51,17 +51,15 @@ impl Bad {
 }
 
 /// The status of a refused Kconfig text.
-fn status_of_kconfig(bad: &KconfBad) -> Status
+fn status_of_kconfig(bad: &KconfigBad) -> Status
     ensures { result ≡ kconf_status bad.now }
 {
     match bad {
-        KconfBad::Syntax { .. } | KconfBad::NotYet { .. } | KconfBad::Macro { .. } => {
-            Status::Refused
-        }
-        KconfBad::Missing { .. } => Status::Missing,
-        KconfBad::ReadFault { .. } => Status::ReadFault,
-        KconfBad::Depth { .. } | KconfBad::TooLarge { .. } => Status::Limit,
-        KconfBad::Oom => Status::Memory,
+        KconfigBad::NotYet { .. } => Status::Refused,
+        KconfigBad::Missing { .. } => Status::Missing,
+        KconfigBad::ReadFault { .. } => Status::ReadFault,
+        KconfigBad::TooLarge { .. } => Status::Limit,
+        KconfigBad::Oom => Status::Memory,
     }
 }
 
@@ -77,41 +75,16 @@ fn status_of_take(bad: &TakeBad) -> Status
     }
 }
 
-/// The word of what a line breaks.
-fn kind_word(kind: SyntaxKind) -> &'static str
-    ensures { result.now ≡ kind_text kind }
-{
-    match kind {
-        SyntaxKind::Quote => "quote",
-        SyntaxKind::Bracket => "bracket",
-        SyntaxKind::Word => "word",
-        SyntaxKind::Attribute => "attribute",
-        SyntaxKind::Expression => "expression",
-        SyntaxKind::Named => "name",
-        SyntaxKind::Extra => "extra",
-        SyntaxKind::End => "end",
-        SyntaxKind::Unclosed => "unclosed",
-        SyntaxKind::Choice => "choice",
-    }
-}
-
 /// The line on a refused Kconfig text.
-fn text_of_kconfig(alloc: Global, bad: &KconfBad) -> Result<Vec<u8>, AllocError>
+fn text_of_kconfig(alloc: Global, bad: &KconfigBad) -> Result<Vec<u8>, AllocError>
     ensures { IfOk result (λ l. l.items ≡ kconf_line bad.now) }
 {
     match bad {
-        KconfBad::Syntax { file, line, kind } => placed(alloc, file, *line, kind_word(*kind)),
-        KconfBad::NotYet { file, line } => placed(alloc, file, *line, "not yet"),
-        KconfBad::Missing { file } => named(alloc, file, "missing"),
-        KconfBad::ReadFault { file } => named(alloc, file, "read fault"),
-        KconfBad::Macro { file, line } => placed(alloc, file, *line, "macro"),
-        KconfBad::Depth { file, line, what } => {
-            let mut text = placed(alloc, file, *line, "limit: ")?;
-            text.extend_from_slice(what.word().as_bytes())?;
-            Ok(text)
-        }
-        KconfBad::TooLarge { what, count } => passed(alloc, *what, *count),
-        KconfBad::Oom => Vec::from_slice(alloc, b"memory"),
+        KconfigBad::NotYet { file, line } => placed(alloc, file, *line, "not yet"),
+        KconfigBad::Missing { file } => named(alloc, file, "missing"),
+        KconfigBad::ReadFault { file } => named(alloc, file, "read fault"),
+        KconfigBad::TooLarge { what, count } => passed(alloc, *what, *count),
+        KconfigBad::Oom => Vec::from_slice(alloc, b"memory"),
     }
 }
 

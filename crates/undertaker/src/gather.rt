@@ -2,7 +2,7 @@ ghost use Rattle.std.specs.Prelude.{◌≡◌, ◌≤◌, IfOk, IfSome, MatchRes
 ghost use Rattle.std.specs.FinMap.{get};
 ghost use Rattle.ut_base.specs.Outside.{HasCause};
 ghost use Rattle.kconf_tree.specs.Gathered.{gathered};
-ghost use Rattle.cpp_read.specs.FirstForm.{first_directives_of};
+ghost use Rattle.undertaker.specs.FirstSource.Form.{first_directives_of};
 ghost use Rattle.undertaker.specs.FirstEntries.{IsFirstTree};
 ghost use Rattle.undertaker.specs.Outcome.{outcome_of};
 ghost use Rattle.undertaker.specs.Plain.{IsFirstSource};
@@ -13,14 +13,15 @@ ghost use Rattle.undertaker.specs.declared.bad.Bad.TheVariants as bad;
 
 use crate::bad::Bad;
 use crate::decision::words_of;
+use crate::first_bad::FirstBad;
+use crate::first_kconfig::first_tree;
+use crate::first_source::first_directives;
 use crate::lines::Line;
 use crate::report::{refused_lines, verdict_lines};
 use crate::status::Status;
 use crate::words::names_of;
 use cpp_directives::Directive;
-use cpp_read::first_directives;
 use kconf_entries::Entries;
-use kconf_parse::first_tree;
 use std::alloc::{AllocError, Global};
 use ut_base::{Files, Meter, Name, TakeBad, Word, take};
 
@@ -107,7 +108,8 @@ fn lines_of_source(
 {
     match first_directives(alloc, bytes) {
         Ok(list) => lines_of_blocks(alloc, entries, name, list.as_slice()),
-        Err(bad) => refused_lines(alloc, name, bad),
+        Err(FirstBad::NotYet { line }) => refused_lines(alloc, name, line),
+        Err(FirstBad::Oom) => Err(AllocError),
     }
 }
 

@@ -1,12 +1,11 @@
 ghost use Rattle.std.specs.Prelude.{◌≡◌, ◌+◌, ◌++◌, IfOk, OnOk, decimal, map};
-ghost use Rattle.ut_report.specs.Report.{Refusal, Words, ask_text, block_line, class_text, refusal_of, refused_line, steps_text, word_text};
+ghost use Rattle.ut_report.specs.Report.{ask_text, block_line, class_text, steps_text, word_text};
 ghost use Rattle.ut_report.specs.Report as spec;
-ghost use Rattle.undertaker.specs.Gather.{IsFault};
 ghost use Rattle.undertaker.specs.Lines.{ended, lines_on};
+ghost use Rattle.undertaker.specs.Written as written;
 
 use crate::lines::Line;
 use crate::totals::Totals;
-use cpp_directives::CppBad;
 use itoa::Buffer;
 use std::alloc::{AllocError, Global};
 use ut_base::Name;
@@ -104,57 +103,28 @@ pub(crate) fn verdict_lines(
     name: &Name,
     words: &[Word],
 ) -> Result<Vec<Line>, AllocError>
-    ensures { IfOk result (λ lines. lines.items ≡ lines_on name.now (Words words.now)) }
+    ensures { IfOk result (λ lines. lines.items ≡ lines_on name.now words.now) }
 {
     let mut lines = block_lines(alloc, name, words)?;
     lines.push(Totals::of_words(words).line(alloc)?)?;
     Ok(lines)
 }
 
-/// The kind of a refusal, and the line that it names.
-fn refusal(bad: CppBad) -> (&'static str, u32)
-    ensures kind { result.0.now ≡ (refusal_of bad).0 }
-    ensures line { result.1 ≡ (refusal_of bad).1 }
+/// The line on a source that is refused at this line of it.
+fn refused_line(alloc: Global, name: &Name, line: u32) -> Result<Line, AllocError>
+    ensures { IfOk result (λ l. l ≡ ended (written.refused_line name.now line)) }
 {
-    match bad {
-        CppBad::NotYet { line } => ("notyet", line),
-        CppBad::Unbalanced { line } => ("unbalanced", line),
-        CppBad::ElseTwice { line } => ("else", line),
-        CppBad::Depth { line } => ("depth", line),
-        CppBad::TooMany { line } => ("many", line),
-        CppBad::NoName { line } => ("name", line),
-        CppBad::Condition { line } => ("condition", line),
-        CppBad::Unclosed { line } => ("unclosed", line),
-        CppBad::Oom => ("memory", 0),
-    }
-}
-
-/// The line on a source that is refused.
-fn refusal_line(alloc: Global, name: &Name, bad: CppBad) -> Result<Line, AllocError>
-    ensures { IfOk result (λ l. l ≡ ended (refused_line name.now bad)) }
-{
-    let (kind, line) = refusal(bad);
     let mut text = Vec::from_slice(alloc, name.text().as_bytes())?;
-    text.extend_from_slice(b".refused ")?;
-    text.extend_from_slice(kind.as_bytes())?;
-    add_count(&mut text, " ", u64::from(line))?;
+    add_count(&mut text, ".refused notyet ", u64::from(line))?;
     Line::ended(text)
 }
 
-/// The report on a refused source. Want of memory is no refusal.
-pub(crate) fn refused_lines(
-    alloc: Global,
-    name: &Name,
-    bad: CppBad,
-) -> Result<Vec<Line>, AllocError>
-    ensures lines { IfOk result (λ lines. lines.items ≡ lines_on name.now (Refusal bad)) }
-    ensures fault { OnOk result (IsFault bad) }
+/// What is written on a source that is refused at this line of it.
+pub(crate) fn refused_lines(alloc: Global, name: &Name, line: u32) -> Result<Vec<Line>, AllocError>
+    ensures { IfOk result (λ lines. lines.items ≡ map ended (written.refused_lines name.now line)) }
 {
-    if let CppBad::Oom = bad {
-        return Err(AllocError);
-    }
     let mut lines = Vec::new(alloc);
-    lines.push(refusal_line(alloc, name, bad)?)?;
+    lines.push(refused_line(alloc, name, line)?)?;
     lines.push(Totals::of_words(&[]).line(alloc)?)?;
     Ok(lines)
 }

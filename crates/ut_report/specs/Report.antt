@@ -3,6 +3,7 @@
 -- Rule: this project's own; the words are those of the tools of the EuroSys 2011 paper on Undertaker.
 use Rattle.std.specs.Prelude.{◌≡◌, ℕ, ◌<◌, Bool, List, [], ◌∷◌, ◌++◌, suc, Result, Ok, Err, map, length, get_or, codes, decimal}
 use Rattle.std.specs.List.{flat_map, concat}
+use Rattle.ut_text.specs.Bytes.{Bytes}
 use Rattle.cpp_directives.specs.declared.directive.Directive.{Directive}
 use Rattle.cpp_directives.specs.declared.bad.CppBad.{CppBad}
 use Rattle.cpp_directives.specs.declared.bad.CppBad.TheVariants as bad
@@ -20,35 +21,35 @@ use Rattle.ut_verdict.specs.Verdicts.{IsWordOf}
 -- ---- lines, without their newlines; `steps` is the budget of the run
 
 -- the word of a class
-abbrev pub class_text : Class → List ℕ
+abbrev pub class_text : Class → Bytes
 class_text class.Code = codes "code"
 class_text class.Kconfig = codes "kconfig"
 class_text class.Missing = codes "missing"
 class_text (class.Unclassified steps) = codes "unclassified"
 
 -- behind an unclassified line stand a space and the steps
-abbrev pub steps_text : Class → List ℕ
+abbrev pub steps_text : Class → Bytes
 steps_text (class.Unclassified steps) = codes " " ++ decimal steps
 steps_text c = []
 
 -- the word of what was asked
-abbrev pub ask_text : Ask → List ℕ
+abbrev pub ask_text : Ask → Bytes
 ask_text Selected = codes "selected"
 ask_text Dropped = codes "dropped"
 
 -- what a line says of a block
-abbrev pub word_text : ℕ → Word → List ℕ
+abbrev pub word_text : ℕ → Word → Bytes
 word_text steps (Dead class) = class_text class ++ codes ".globally.dead" ++ steps_text class
 word_text steps (Undead class) = class_text class ++ codes ".globally.undead" ++ steps_text class
 word_text steps Live = codes "live"
 word_text steps (Undecided ask) = codes "undecided " ++ ask_text ask ++ codes " " ++ decimal steps
 
 -- the line of one block
-abbrev pub block_line : List ℕ → ℕ → ℕ → Word → List ℕ
+abbrev pub block_line : Bytes → ℕ → ℕ → Word → Bytes
 block_line name steps block word = name ++ codes ".B" ++ decimal block ++ codes "." ++ word_text steps word
 
 -- the kind and the line of a refusal
-abbrev pub refusal_of : CppBad → List ℕ × ℕ
+abbrev pub refusal_of : CppBad → Bytes × ℕ
 refusal_of (bad.NotYet line) = (codes "notyet", line)
 refusal_of (bad.Unbalanced line) = (codes "unbalanced", line)
 refusal_of (bad.ElseTwice line) = (codes "else", line)
@@ -60,7 +61,7 @@ refusal_of (bad.Unclosed line) = (codes "unclosed", line)
 refusal_of bad.Oom = (codes "memory", 0)
 
 -- the line of a source that is refused
-abbrev pub refused_line : List ℕ → CppBad → List ℕ
+abbrev pub refused_line : Bytes → CppBad → Bytes
 refused_line name bad = name ++ codes ".refused " ++ (refusal_of bad).0 ++ codes " " ++ decimal (refusal_of bad).1
 
 -- ---- the total line
@@ -90,7 +91,7 @@ abbrev pub totals_of : List Word → Totals
 totals_of = totals_from (record { blocks = 0; dead = 0; undead = 0; live = 0; undecided = 0 })
 
 -- the last line
-abbrev pub total_line : Totals → List ℕ
+abbrev pub total_line : Totals → Bytes
 total_line t = codes "blocks " ++ decimal t.blocks ++ codes " dead " ++ decimal t.dead ++ codes " undead " ++ decimal t.undead
     ++ codes " live " ++ decimal t.live ++ codes " undecided " ++ decimal t.undecided
 
@@ -102,33 +103,33 @@ pub data Said : Type 0 where
   Words : List Word → Said
 
 -- the lines of the blocks from this number on
-abbrev pub block_lines : List ℕ → ℕ → ℕ → List Word → List (List ℕ)
+abbrev pub block_lines : Bytes → ℕ → ℕ → List Word → List Bytes
 block_lines name steps block [] = []
 block_lines name steps block (w ∷ ws) = block_line name steps block w ∷ block_lines name steps (suc block) ws
 
 -- the lines of one source
-abbrev pub source_lines : ℕ → List ℕ × Said → List (List ℕ)
+abbrev pub source_lines : ℕ → Bytes × Said → List Bytes
 source_lines steps (name, Refusal bad) = refused_line name bad ∷ []
 source_lines steps (name, Words ws) = block_lines name steps 1 ws
 
 -- the words on its blocks
-abbrev pub words_of : List ℕ × Said → List Word
+abbrev pub words_of : Bytes × Said → List Word
 words_of (name, Refusal bad) = []
 words_of (name, Words ws) = ws
 
 -- the lines of the report, from the names of the sources and what is said of each
-abbrev pub report_lines : ℕ → List (List ℕ × Said) → List (List ℕ)
+abbrev pub report_lines : ℕ → List (Bytes × Said) → List Bytes
 report_lines steps said = flat_map (source_lines steps) said ++ total_line (totals_of (flat_map words_of said)) ∷ []
 
 -- each line with its newline
-abbrev pub text_of : List (List ℕ) → List ℕ
+abbrev pub text_of : List Bytes → Bytes
 text_of lines = concat (map (λ line. line ++ 10 ∷ []) lines)
 
 -- ---- the report
 
 -- a source as it was read: its name, and its directives or its first fault
 pub record Source : Type 0 where
-  pub name : List ℕ
+  pub name : Bytes
   pub read : Result (List Directive) CppBad
 
 -- each block has its right word, where `spent` tells which questions weren't decided
@@ -144,14 +145,14 @@ IsSaidOf t spent (Err e) (Words ws) = ⊥
 IsSaidOf t spent (Err e) (Refusal b) = b ≡ e
 
 -- and of each source in order, where `spent` takes the source's number first
-abbrev pub AreSaid : Shape → (ℕ → ℕ → Family → Ask → Bool) → ℕ → List Source → List (List ℕ × Said) → Type 0
+abbrev pub AreSaid : Shape → (ℕ → ℕ → Family → Ask → Bool) → ℕ → List Source → List (Bytes × Said) → Type 0
 AreSaid t spent file [] [] = Unit {0}
 AreSaid t spent file (s ∷ ss) [] = ⊥
 AreSaid t spent file [] (x ∷ xs) = ⊥
 AreSaid t spent file (s ∷ ss) (x ∷ xs) = (x.0 ≡ s.name) × IsSaidOf t (spent file) s.read x.1 × AreSaid t spent (suc file) ss xs
 
 -- the text is the report of these sources under this tree
-pub record IsReport (t : Shape) (sources : List Source) (spent : ℕ → ℕ → Family → Ask → Bool) (steps : ℕ) (text : List ℕ) : Type 0 where
-  pub said : List (List ℕ × Said)
+pub record IsReport (t : Shape) (sources : List Source) (spent : ℕ → ℕ → Family → Ask → Bool) (steps : ℕ) (text : Bytes) : Type 0 where
+  pub said : List (Bytes × Said)
   pub right : AreSaid t spent 0 sources said
   pub lines : text ≡ text_of (report_lines steps said)

@@ -1,8 +1,18 @@
-//! Worked rows: what `run` prints and answers over files and sinks in memory.
+//! Worked rows: what `run` prints and answers over files and sinks in memory, and what the readers of the first forms
+//! answer.
 //!
-//! The crate has tests alone. A row is a Kconfig text, a source and the words, and what they come to.
+//! A row is a Kconfig text, a source and the words, and what they come to. One law joins these rows to those of
+//! `worked_rows`; all else is tests.
 #![tactic(auto)]
 
+mod laws;
+
+pub use laws::texts_are_read;
+
+#[cfg(test)]
+mod first_kconfig_tests;
+#[cfg(test)]
+mod first_source_tests;
 #[cfg(test)]
 mod rows;
 #[cfg(test)]

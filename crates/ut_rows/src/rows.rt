@@ -51,7 +51,8 @@ fn file(alloc: Global, name: &str, text: &str) -> Result<MemFile, Fail> {
     Ok(MemFile { name, bytes })
 }
 
-fn files(alloc: Global, texts: &[(&str, &str)], fails: Vec<u64>) -> Result<MemFiles, Fail> {
+/// Files in memory, of which the reads with these numbers fail.
+pub fn files(alloc: Global, texts: &[(&str, &str)], fails: Vec<u64>) -> Result<MemFiles, Fail> {
     let mut list = Vec::new(alloc);
     for (name, text) in texts {
         list.push(file(alloc, name, text)?)?;

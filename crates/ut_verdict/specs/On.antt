@@ -5,6 +5,7 @@
 use Rattle.std.specs.Prelude.{ℕ, ◌==◌, ◌-◌, Bool, true, false, ◌||◌, List, Option, None, Some, if◌then◌else◌, take, drop, length, nat_eq, codes, is_some}
 use Rattle.std.specs.List.{starts_with, ends_with}
 use Rattle.std.specs.Option.{option_and_then}
+use Rattle.ut_text.specs.Bytes.{Bytes}
 use Rattle.cpp_directives.specs.declared.directive.Directive.{Directive}
 use Rattle.kconf_tree.specs.Shape.{Shape, number_of}
 use Rattle.kconf_tree.specs.Value.{Configuration, own_value}
@@ -18,9 +19,9 @@ use Rattle.ut_verdict.specs.declared.question.Family.TheVariants as family
 -- what a source meets outside the configuration: the state of each macro that starts free, the truth of
 -- the macro of each written string, hex or int symbol, and the truths of opaque pieces and `#define` lines
 pub record Environment : Type 0 where
-  pub start : List ℕ → MacroState
-  pub truth : List ℕ → Bool
-  pub piece : List ℕ → ℕ → Bool
+  pub start : Bytes → MacroState
+  pub truth : Bytes → Bool
+  pub piece : Bytes → ℕ → Bool
   pub line : ℕ → Bool
 
 -- a configuration and an environment
@@ -29,15 +30,15 @@ pub record Case : Type 0 where
   pub environment : Environment
 
 -- the N of a macro `CONFIG_N`
-abbrev pub config_name : List ℕ → Option (List ℕ)
+abbrev pub config_name : Bytes → Option Bytes
 config_name macro = if starts_with nat_eq macro (codes "CONFIG_") then Some (drop 7 macro) else None
 
 -- the P of a name `P_MODULE`
-abbrev pub module_name : List ℕ → Option (List ℕ)
+abbrev pub module_name : Bytes → Option Bytes
 module_name name = if ends_with nat_eq name (codes "_MODULE") then Some (take (length name - 7) name) else None
 
 -- the declared symbol P for a name `P_MODULE`
-abbrev pub module_of : Shape → List ℕ → Option ℕ
+abbrev pub module_of : Shape → Bytes → Option ℕ
 module_of t name = option_and_then (number_of t) (module_name name)
 
 -- a declared symbol that has this value
@@ -56,19 +57,19 @@ truth_state b = if b then DefinedTrue else DefinedFalse
 
 -- `CONFIG_N` is defined and true where N is y, or where N is `P_MODULE` and P is m; else defined where N
 -- is a written string, hex or int symbol; else undefined. An undeclared one is defined where it is read as y.
-abbrev pub config_start : Shape → Case → List ℕ → List ℕ → MacroState
+abbrev pub config_start : Shape → Case → Bytes → Bytes → MacroState
 config_start t x macro name = if has_value t x.configuration 2 (number_of t name) || has_value t x.configuration 1 (module_of t name) then DefinedTrue
     else (if is_written_one t x.configuration (number_of t name) then truth_state (x.environment.truth macro)
     else (if is_some (number_of t name) || is_some (module_of t name) then Undefined
     else (if x.configuration.undeclared name then DefinedTrue else Undefined)))
 
 -- every other macro starts free
-abbrev pub start_by : Shape → Case → List ℕ → Option (List ℕ) → MacroState
+abbrev pub start_by : Shape → Case → Bytes → Option Bytes → MacroState
 start_by t x macro None = x.environment.start macro
 start_by t x macro (Some name) = config_start t x macro name
 
 -- the state at the start, where family Code leaves every macro free
-abbrev pub macro_start : Family → Shape → Case → List ℕ → MacroState
+abbrev pub macro_start : Family → Shape → Case → Bytes → MacroState
 macro_start family.Code t x macro = x.environment.start macro
 macro_start f t x macro = start_by t x macro (config_name macro)
 

@@ -1,6 +1,6 @@
 -- The words on a group in a group, of which each asks for A or for B.
 use Rattle.std.proofs.Common.{◌≡◌, ℕ, ◌==◌, Bool, true, false, not, ◌&&◌, ◌||◌, cond, refl, ap, sym, subst, ◌∙◌, List, codes}
-use Rattle.ut_logic.specs.Text.{text_eq}
+use Rattle.ut_text.specs.Text.{text_eq}
 use Rattle.cpp_blocks.specs.declared.state.MacroState.TheVariants.{Undefined, DefinedTrue}
 use Rattle.cpp_blocks.specs.Run.{Start, is_defined, holds, opened}
 use Rattle.cpp_directives.specs.declared.condition.Cond.TheVariants.{Defined}

@@ -1,6 +1,6 @@
 -- A symbol without a prompt that another selects has y exactly where its selector has.
 use Rattle.std.proofs.Common.{◌≡◌, ℕ, ◌<◌, ◌==◌, zero, suc, Bool, true, false, not, ◌&&◌, cond, refl, ap, sym, ◌∙◌, arith, List, Option, None, Some, ◌⊎◌, inl, inr, ⊎_elim, max, min}
-use Rattle.ut_logic.specs.Text.{text_eq}
+use Rattle.ut_text.specs.Text.{text_eq}
 use Rattle.cpp_blocks.specs.declared.state.MacroState.TheVariants.{Undefined, DefinedTrue}
 use Rattle.cpp_blocks.specs.Run.{is_defined}
 use Rattle.kconf_tree.specs.declared.shape.Counts.TheVariants as counts

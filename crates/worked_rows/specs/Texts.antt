@@ -1,6 +1,7 @@
 -- The Kconfig texts and the sources of the rows, as the entries and directives that they are read as.
 -- Rule: this project's own. That texts are read so is a law for those that the readers of the first forms take.
 use Rattle.std.specs.Prelude.{ℕ, Bool, true, false, List, [], ◌∷◌, Some, Ok, codes, suc}
+use Rattle.ut_text.specs.Bytes.{Bytes}
 use Rattle.cpp_directives.specs.declared.directive.Directive.{Directive}
 use Rattle.cpp_directives.specs.declared.directive.What.{What}
 use Rattle.cpp_directives.specs.declared.directive.What.TheVariants.{If, Elif, Else, Endif, Define}
@@ -10,7 +11,7 @@ use Rattle.ut_logic.specs.declared.trit.Trit.TheVariants.{Y}
 use Rattle.kconf_entries.specs.declared.expr.Expr.TheVariants.{Const}
 use Rattle.kconf_entries.specs.declared.entries.Kind.TheVariants as kind
 use Rattle.kconf_entries.specs.declared.entries.Entries.{Entries}
-use Rattle.kconf_parse.specs.FirstForm.{entry_of}
+use Rattle.kconf_entries.specs.BoolEntries.{bool_entry}
 use Rattle.kconf_tree.specs.Shape.{Shape}
 use Rattle.kconf_tree.specs.Gathered.{gathered}
 use Rattle.ut_verdict.specs.declared.question.Family.{Family}
@@ -24,7 +25,7 @@ use Rattle.ut_report.specs.Report.{Source}
 
 -- two bool symbols with a prompt each: A, and B that depends on A
 abbrev pub two_symbols : Entries
-two_symbols = record { configs = entry_of (codes "A") [] ∷ entry_of (codes "B") (codes "A" ∷ []) ∷ []; choices = [] }
+two_symbols = record { configs = bool_entry (codes "A") [] ∷ bool_entry (codes "B") (codes "A" ∷ []) ∷ []; choices = [] }
 
 -- its tree
 abbrev pub two_tree : Shape
@@ -33,7 +34,7 @@ two_tree = gathered two_symbols
 -- A without a prompt, and B with one, which selects A
 abbrev pub selected_symbol : Entries
 selected_symbol = record {
-  configs = record (entry_of (codes "A") []) { prompts = [] } ∷ record (entry_of (codes "B") []) { selects = record { target = codes "A"; cond = Const Y } ∷ [] } ∷ [];
+  configs = record (bool_entry (codes "A") []) { prompts = [] } ∷ record (bool_entry (codes "B") []) { selects = record { target = codes "A"; cond = Const Y } ∷ [] } ∷ [];
   choices = [];
 }
 
@@ -44,7 +45,7 @@ selecting_tree = gathered selected_symbol
 -- a bool choice with a prompt, of A and B, each with a prompt
 abbrev pub choice_of_two : Entries
 choice_of_two = record {
-  configs = record (entry_of (codes "A") []) { choice = Some 0 } ∷ record (entry_of (codes "B") []) { choice = Some 0 } ∷ [];
+  configs = record (bool_entry (codes "A") []) { choice = Some 0 } ∷ record (bool_entry (codes "B") []) { choice = Some 0 } ∷ [];
   choices = record { kind = kind.Bool; optional = false; prompts = Const Y ∷ []; defaults = [] } ∷ [];
 }
 
@@ -55,7 +56,7 @@ choosing_tree = gathered choice_of_two
 -- the tristate A, and MODULES with `modules`, both with a prompt
 abbrev pub with_modules : Entries
 with_modules = record {
-  configs = record (entry_of (codes "A") []) { kind = kind.Tristate } ∷ record (entry_of (codes "MODULES") []) { modules = true } ∷ [];
+  configs = record (bool_entry (codes "A") []) { kind = kind.Tristate } ∷ record (bool_entry (codes "MODULES") []) { modules = true } ∷ [];
   choices = [];
 }
 
@@ -66,11 +67,11 @@ modular_tree = gathered with_modules
 -- ---- sources
 
 -- `#ifdef` of a macro
-abbrev pub ifdef : List ℕ → What
+abbrev pub ifdef : Bytes → What
 ifdef macro = If (Defined macro)
 
 -- `#ifndef` of a macro
-abbrev pub ifndef : List ℕ → What
+abbrev pub ifndef : Bytes → What
 ifndef macro = If (Neg (Defined macro))
 
 -- directives on lines of their own, from this line on
@@ -129,7 +130,7 @@ same_twice = lines_from 1 (ifdef (codes "CONFIG_A") ∷ Elif (Defined (codes "CO
 -- ---- reports
 
 -- one source of this name, with these directives
-abbrev pub one_source : List ℕ → List Directive → List Source
+abbrev pub one_source : Bytes → List Directive → List Source
 one_source name ds = record { name = name; read = Ok ds } ∷ []
 
 -- each question on a block is decided

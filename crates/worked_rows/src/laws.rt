@@ -1,7 +1,5 @@
 ghost use Rattle.std.specs.Prelude.{◌≡◌, ℕ, Bool, [], List, Ok, codes};
-ghost use Rattle.kconf_parse.specs.FirstForm.{first_tree_of};
 ghost use Rattle.cpp_directives.specs.declared.directive.Directive.{Directive};
-ghost use Rattle.cpp_read.specs.FirstForm.{first_directives_of};
 ghost use Rattle.kconf_tree.specs.Shape.{Shape};
 ghost use Rattle.ut_verdict.specs.declared.question.Ask.{Ask};
 ghost use Rattle.ut_verdict.specs.declared.question.Family.{Family};
@@ -11,16 +9,6 @@ ghost use Rattle.ut_verdict.specs.declared.word.Word.TheVariants.{Dead, Live, Un
 ghost use Rattle.ut_verdict.specs.Verdicts.{IsWordOf};
 ghost use Rattle.ut_report.specs.Report.{IsReport, Source};
 ghost use Rattle.worked_rows.specs.Texts.{two_symbols, two_tree, undeclared, contrary, dependent, repeated, implied, selecting_tree, choosing_tree, backwards, together, modular_tree, both_ways, module_alone, behind_define, same_twice, one_source, all_decided, none_spent, steps_aside};
-
-/// Law: the Kconfig text of the rows declares A, and B that depends on A; and the sources of the rows are read
-/// as the directives that stand for them.
-pub fn texts_are_read()
-    ensures tree { first_tree_of (codes "config A\n\tbool \"a\"\nconfig B\n\tbool \"b\"\n\tdepends on A\n") ≡ Ok two_symbols }
-    ensures contrary { first_directives_of (codes "#ifdef CONFIG_A\n#ifndef CONFIG_A\n#endif\n#endif\n") ≡ Ok contrary }
-    ensures dependent { first_directives_of (codes "#ifdef CONFIG_B\n#ifndef CONFIG_A\n#endif\n#endif\n") ≡ Ok dependent }
-    ensures repeated { first_directives_of (codes "#ifdef CONFIG_A\n#ifdef CONFIG_A\n#endif\n#endif\n") ≡ Ok repeated }
-    ensures implied { first_directives_of (codes "#ifdef CONFIG_B\n#ifdef CONFIG_A\n#endif\n#endif\n") ≡ Ok implied }
-{}
 
 /// Law: a block that asks for a name that is declared nowhere is dead, and its `#else` is undead, both since
 /// the name is missing.

@@ -12,5 +12,5 @@ mod laws;
 
 pub use laws::{
     contrary_block, dependent_block, empty_source, members_of_a_choice, modules_on, one_answer,
-    one_chain, selected_block, texts_are_read, undead_block, undeclared_name,
+    one_chain, selected_block, undead_block, undeclared_name,
 };

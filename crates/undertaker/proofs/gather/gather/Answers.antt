@@ -1,6 +1,6 @@
 use Rattle.std.proofs.Common.{◌≡◌, ◌∙◌, List, ℕ, sym, subst}
 use Rattle.std.specs.Prelude.{MatchResult}
-use Rattle.cpp_read.specs.FirstForm.{first_directives_of}
+use Rattle.undertaker.specs.FirstSource.Form.{first_directives_of}
 use Rattle.kconf_tree.specs.Gathered.{gathered}
 use Rattle.undertaker.specs.Written.{AreLinesOn}
 use Rattle.undertaker.specs.declared.bad.Bad.TheVariants as bad

@@ -1,9 +1,9 @@
-use Rattle.cpp_read.specs.FirstForm.{first_directives_of}
+use Rattle.undertaker.specs.FirstSource.Form.{first_directives_of}
 use Rattle.kconf_tree.specs.Gathered.{gathered}
 use Rattle.undertaker.proofs.ReportLemmas.{on_refusal}
 use Rattle.undertaker.proofs.gather.lines_of_source.Goals as goal
 
-pub returns-in-Err : goal.returns-in-Err
-returns-in-Err c =
-    on_refusal (gathered c.args.entries.now) c.args.name.now c.in-Err.bad (first_directives_of c.args.bytes.now) c.refused_lines.result c.in-Err.ensures
-    c.refused_lines.ensures.fault c.refused_lines.ensures.lines
+pub returns-in-Err-NotYet : goal.returns-in-Err-NotYet
+returns-in-Err-NotYet c =
+    on_refusal (gathered c.args.entries.now) c.args.name.now c.in-Err-NotYet.field-0 c.in-Err-NotYet.line (first_directives_of c.args.bytes.now) c.refused_lines.result
+    c.in-Err-NotYet.field-0-is c.in-Err-NotYet.ensures c.refused_lines.ensures

@@ -1,4 +1,0 @@
-#ifdef CONFIG_B
-#ifndef CONFIG_A
-#endif
-#endif

@@ -1,0 +1,99 @@
+use crate::rows::files;
+use kconf_entries::Expr;
+use std::alloc::Global;
+use std::process::Abort;
+use std::test::Fail;
+use undertaker::{KconfigBad, first_tree};
+use ut_base::{Limit, MemFiles, Meter, Name};
+use ut_logic::Trit;
+
+fn files_of(alloc: Global, text: &str, fails: Vec<u64>) -> Result<MemFiles, Fail> {
+    files(alloc, &[("Kconfig", text)], fails)
+}
+
+/// The line of a `NotYet`, or 0 where the text is of the form.
+fn refused(alloc: Global, text: &str) -> Result<u32, Fail> {
+    let mut files = files_of(alloc, text, Vec::new(alloc))?;
+    let root = Name::new(alloc, "Kconfig")?.ok_or("a name")?;
+    let mut meter = Meter::new();
+    match first_tree(alloc, &mut files, &root, &mut meter) {
+        Ok(_) => Ok(0),
+        Err(KconfigBad::NotYet { line, .. }) => Ok(line),
+        Err(_) => Err(Fail::from("another refusal")),
+    }
+}
+
+/// Each text, with the line that is refused.
+fn check_lines(rt: &impl Abort, alloc: Global, rows: &[(&str, u32)]) -> Result<(), Fail> {
+    for (text, want) in rows {
+        let line = refused(alloc, *text)?;
+        assert!(rt; line == *want, "{line} {want}");
+    }
+    Ok(())
+}
+
+#[test]
+fn texts_of_the_first_form(rt: HostRuntime) -> Result<(), Fail> {
+    let alloc = rt.alloc();
+    let rows = [
+        ("", 0),
+        (
+            "config A\n\tbool \"a\"\nconfig B\n\tbool \"b\"\n\tdepends on A\n",
+            0,
+        ),
+        ("config A\r\n\tbool \"a\"", 0),
+        ("config A\n\ttristate \"a\"\n", 2),
+        ("config A\n\tbool \"a\"\nconfig B\n", 3),
+        ("config A\n", 1),
+        ("\n", 1),
+        ("config a\n\tbool \"a\"\n", 1),
+        ("config A\n\tbool \"a\"\nconfig A\n", 3),
+        ("config A\n\tbool \"a\"\n\tdepends on A\n", 3),
+        ("config A\n\tbool \"a\"\n\tdepends on B\n", 3),
+        (
+            "config A\n\tbool \"a\"\nconfig B\n\tbool \"b\"\n\tdepends on A &&\n",
+            5,
+        ),
+        ("config A\n\tbool \"a$\"\n", 2),
+        ("config A\n\tbool \"a\" \n", 2),
+    ];
+    check_lines(&rt, alloc, rows.as_slice())
+}
+
+#[test]
+fn entries_and_faults(rt: HostRuntime) -> Result<(), Fail> {
+    let alloc = rt.alloc();
+    let text =
+        "config A\n\tbool \"\"\nconfig B\n\tbool \"b\"\n\tdepends on A\nconfig C\n\tbool \"c\"\n\tdepends on A && B\n\tdepends on A\n";
+    let mut files = files_of(alloc, text, vec![in alloc; 2]?)?;
+    let root = Name::new(alloc, "Kconfig")?.ok_or("a name")?;
+    let absent = Name::new(alloc, "Konfig")?.ok_or("a name")?;
+    let mut meter = Meter::new();
+    let entries = first_tree(alloc, &mut files, &root, &mut meter)?;
+    let configs = entries.configs.as_slice();
+    assert!(rt; configs.len() == 3 && entries.choices.is_empty());
+    assert!(rt; configs[2].name.text() == "C");
+    assert!(rt; matches!(&configs[0].depends, Expr::Const(Trit::Y)));
+    assert!(rt; matches!(&configs[1].depends, Expr::Name(_)));
+    assert!(rt;
+        matches!(configs[2].prompts.as_slice().first(), Some(Expr::And(list)) if list.len() == 3)
+    );
+    assert!(rt; meter.used() == text.len() as u64);
+    let failed = first_tree(alloc, &mut files, &root, &mut meter);
+    assert!(rt; matches!(failed, Err(KconfigBad::ReadFault { .. })));
+    let missing = first_tree(alloc, &mut files, &absent, &mut meter);
+    assert!(rt; matches!(missing, Err(KconfigBad::Missing { .. })));
+    let long = "x".repeat(alloc, 16_777_217)?;
+    let mut files = files_of(alloc, &long, Vec::new(alloc))?;
+    let refusal = first_tree(alloc, &mut files, &root, &mut meter);
+    assert!(rt;
+        matches!(
+            refusal,
+            Err(KconfigBad::TooLarge {
+                what: Limit::FileBytes,
+                count: 16_777_217
+            })
+        )
+    );
+    Ok(())
+}
