@@ -1,7 +1,8 @@
 //! Each type of this crate may be shared between threads, and handed from one to another.
 
 use crate::{
-    FailAt, FileRead, Limit, MemFile, MemFiles, MemSink, Meter, Name, PutEnd, TakeBad, Word,
+    Content, FailAt, FileRead, Limit, MemFile, MemFiles, MemSink, Meter, Name, PutEnd, TakeBad,
+    Word,
 };
 
 fn is_shared<T: Send + Sync>() {}
@@ -15,6 +16,7 @@ pub fn are_shared() {
     is_shared::<PutEnd>();
     is_shared::<TakeBad>();
     is_shared::<Meter>();
+    is_shared::<Content>();
     is_shared::<MemFile>();
     is_shared::<MemFiles>();
     is_shared::<FailAt>();
