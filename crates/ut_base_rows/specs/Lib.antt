@@ -1,0 +1,4 @@
+pub mod Errors
+pub mod Folders
+pub mod Jobs
+pub mod Sources
