@@ -1,10 +1,12 @@
 //! Worked rows: the facts of small trees, worked out by hand from the rules of symbols and choices.
 //!
-//! The crate has tests alone.
+//! The crate has tests alone. A row is a Kconfig text, and what its facts hold or name.
 #![tactic(auto)]
 
 #[cfg(test)]
-mod checking;
+mod answers;
+#[cfg(test)]
+mod bools;
 #[cfg(test)]
 mod conditions;
 #[cfg(test)]
@@ -13,9 +15,5 @@ mod free;
 mod kinds;
 #[cfg(test)]
 mod names;
-#[cfg(test)]
-mod reading;
-#[cfg(test)]
-mod rows;
 #[cfg(test)]
 mod writing;

@@ -54,13 +54,11 @@ pub fn push_formula(text: &mut String, formula: &Formula) -> Result<(), Fail> {
 #[cycle(writing)]
 fn push_list(text: &mut String, sign: &str, list: &[Formula]) -> Result<(), Fail> {
     text.push_str("(")?;
-    let mut behind = false;
+    let mut before = "";
     for part in list {
-        if behind {
-            text.push_str(sign)?;
-        }
+        text.push_str(before)?;
         push_formula(text, part)?;
-        behind = true;
+        before = sign;
     }
     text.push_str(")")?;
     Ok(())
@@ -68,27 +66,21 @@ fn push_list(text: &mut String, sign: &str, list: &[Formula]) -> Result<(), Fail
 
 /// What a fact holds, with one blank between.
 fn push_holds(text: &mut String, fact: &Fact) -> Result<(), Fail> {
-    let mut behind = false;
+    let mut before = "";
     for formula in fact.holds.as_slice() {
-        if behind {
-            text.push_str(" ")?;
-        }
+        text.push_str(before)?;
         push_formula(text, formula)?;
-        behind = true;
+        before = " ";
     }
     Ok(())
 }
 
-/// What all facts hold, with `;` between.
+/// What each fact holds, a line for each.
 pub fn held(alloc: Global, facts: &Facts) -> Result<String, Fail> {
     let mut text = String::new(alloc);
-    let mut behind = false;
     for fact in facts.list.as_slice() {
-        if behind {
-            text.push_str("; ")?;
-        }
         push_holds(&mut text, fact)?;
-        behind = true;
+        text.push_str("\n")?;
     }
     Ok(text)
 }
@@ -109,18 +101,16 @@ fn push_items(text: &mut String, fact: &Fact) -> Result<(), Fail> {
     Ok(())
 }
 
-/// The node, the names and the items of each fact.
+/// The node, the names and the items of each fact, a line for each.
 pub fn named(alloc: Global, facts: &Facts) -> Result<String, Fail> {
     let mut text = String::new(alloc);
     for fact in facts.list.as_slice() {
-        if !text.is_empty() {
-            text.push_str(" ")?;
-        }
         push_node(&mut text, fact.node)?;
         text.push_str(":")?;
         push_names(&mut text, fact)?;
         text.push_str(":")?;
         push_items(&mut text, fact)?;
+        text.push_str("\n")?;
     }
     Ok(text)
 }

@@ -1,5 +1,6 @@
 use crate::files::files_of;
-use kconf_parse::{Entries, read_tree};
+use kconf_entries::Entries;
+use kconf_parse::read_tree;
 use kconf_tree::{Tree, TreeBad, have_choices};
 use std::alloc::Global;
 use std::test::Fail;
