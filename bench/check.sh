@@ -4,7 +4,7 @@
 set -e
 here=$(cd "$(dirname "$0")/.." && pwd)
 . "$here/bench/driver.sh"
-new_driver check_times '' ut_logic log_check
+new_driver check_times '' ut_text ut_logic line_texts log_check
 
 # Clause i has -i, i + 1 and the literals 20 to 27, so that each chain gives -1 and 11 and those.
 cat >crates/check_times/src/main.rt <<'END'

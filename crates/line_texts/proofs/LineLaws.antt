@@ -1,8 +1,9 @@
 -- The lines of a text and the text of lines.
-use Rattle.std.proofs.Common.{◌≡◌, ◌≢◌, ℕ, zero, suc, ◌+◌, ◌-◌, ◌<◌, ◌≤◌, false, List, [], ◌∷◌, ◌++◌, length, get_or, take, drop, refl, sym, ap, ◌∙◌, arith, append_assoc}
-use Rattle.std.specs.Prelude.{◌==◌, All, codes, None, Some}
+use Rattle.std.proofs.Common.{◌≡◌, ◌≢◌, ℕ, zero, suc, ◌+◌, ◌-◌, ◌<◌, ◌≤◌, Bool, true, false, List, [], ◌∷◌, ◌++◌, length, get_or, take, drop, refl, sym, ap, ◌∙◌, arith, append_assoc}
+use Rattle.std.specs.Prelude.{◌==◌, All, codes, if◌then◌else◌, None, Some}
+use Rattle.std.specs.List.{concat}
 use Rattle.std.proofs.lemmas.Bool.{ne_eqb, eqb-true, eq-eqb}
-use Rattle.std.proofs.lemmas.List.{take-append-drop, drop_more, take_rest, get_or-take, get_or_default, length-take-le}
+use Rattle.std.proofs.lemmas.List.{take-append-drop, drop_more, take_rest, get_or-take, get_or_default, get_or_push, length_push, length-take-le}
 use Rattle.std.proofs.lemmas.List.Elements.{All-head, All-tail}
 use Rattle.memchr.specs.Find.{IsFirstByte, is_byte}
 use Rattle.ut_text.specs.Bytes.{Bytes, newline}
@@ -64,3 +65,23 @@ cut_at_newline text p f =
     sym (take-append-drop p text)
     ∙ ap (λ t. take p text ++ t) (drop_more text p 0 f.0.high ∙ ap (λ b. b ∷ drop (p + 1) text) here ∙ ap (λ t. newline ∷ t) (sym (take_rest text (p + 1))))
     ∙ sym (append_assoc (take p text) (codes "\n") (take (length text - (p + 1)) (drop (p + 1) text)))
+
+concat-onto_first : (b : ℕ) (lines : List Bytes) → concat (onto_first b lines) ≡ b ∷ concat lines
+concat-onto_first b [] = refl
+concat-onto_first b (line ∷ lines) = refl
+
+-- the lines with their newlines are the text
+pub concat-whole_lines : (text : Bytes) → concat (whole_lines text) ≡ text
+concat-whole_lines [] = refl
+concat-whole_lines (b ∷ text) = by (b == newline) refl (concat-whole_lines text)
+  where
+    by : (t : Bool) → (b == newline) ≡ t → concat (whole_lines text) ≡ text → concat (if t then codes "\n" ∷ whole_lines text else onto_first b (whole_lines text)) ≡ b ∷ text
+    by true e h = ap (λ s. newline ∷ s) h ∙ ap (λ c. c ∷ text) (sym (eqb-true b newline e))
+    by false e h = concat-onto_first b (whole_lines text) ∙ ap (λ s. b ∷ s) h
+
+-- a line with its newline isn't a text without one
+pub newline_at_end : (text line : Bytes) → HasNoNewline text → text ≢ line ++ codes "\n"
+newline_at_end text line h e =
+    let last : get_or text (length line) newline ≡ newline = ap (λ t. get_or t (length line) newline) e ∙ get_or_push line newline newline (length line) refl in
+    let len : length text ≡ length line + 1 = ap length e ∙ length_push line newline in
+    h (length line) newline (omega arith) last

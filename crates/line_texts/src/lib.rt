@@ -18,5 +18,5 @@ mod tests;
 
 pub use cursor::Cursor;
 pub use laws::lines_are_read_back;
-pub use lines::split_line;
+pub use lines::{split_line, split_whole_line};
 pub use tail::Tail;

@@ -1,5 +1,5 @@
-ghost use Rattle.std.specs.Prelude.{◌≡◌, ◌⊎◌, ◌<◌, ◌∷◌, ◌++◌, [], codes, length};
-ghost use Rattle.line_texts.specs.Lines.{HasNoNewline, lines_of};
+ghost use Rattle.std.specs.Prelude.{◌≡◌, ◌⊎◌, ◌<◌, ◌∷◌, ◌++◌, [], codes, length, IfNone, IfSome};
+ghost use Rattle.line_texts.specs.Lines.{HasNoNewline, lines_of, whole_lines};
 
 use memchr::memchr;
 
@@ -17,5 +17,20 @@ pub fn split_line(text: &[u8]) -> (&[u8], &[u8])
     match memchr(b'\n', text) {
         Some(newline) => (&text[..newline], &text[newline + 1..]),
         None => (text, &text[text.len()..]),
+    }
+}
+
+/// The first line of a text, without its newline, and the text after it.
+///
+/// None where the text has no newline, so that it is empty or one line that lacks it.
+pub fn split_whole_line(text: &[u8]) -> Option<(&[u8], &[u8])>
+    ensures found { IfSome result (λ parts. whole_lines text.now ≡ (parts.0.now ++ codes "\n") ∷ whole_lines parts.1.now) }
+    ensures plain { IfSome result (λ parts. HasNoNewline parts.0.now) }
+    ensures shorter { IfSome result (λ parts. length parts.1.now < length text.now) }
+    ensures none { IfNone result (HasNoNewline text.now) }
+{
+    match memchr(b'\n', text) {
+        Some(newline) => Some((&text[..newline], &text[newline + 1..])),
+        None => None,
     }
 }

@@ -1,4 +1,4 @@
-use crate::{Cursor, Tail, split_line};
+use crate::{Cursor, Tail, split_line, split_whole_line};
 use std::alloc::AllocError;
 
 #[test]
@@ -8,6 +8,11 @@ fn a_line_keeps_its_carriage_return(rt: HostRuntime) {
         (b"a\r".as_slice(), b"b\n".as_slice())
     );
     assert_eq!(rt; split_line(b"b"), (b"b".as_slice(), b"".as_slice()));
+    assert_eq!(rt;
+        split_whole_line(b"a\nb"),
+        Some((b"a".as_slice(), b"b".as_slice()))
+    );
+    assert_eq!(rt; split_whole_line(b"b"), None);
 }
 
 #[test]

@@ -1,14 +1,15 @@
 -- A chain pair by pair, and the lines of a derivation one by one.
-use Rattle.std.proofs.Common.{◌≡◌, ℕ, ◌+◌, ◌-◌, ◌<◌, ◌≤◌, List, [], ◌∷◌, length, get_or, take, drop, true, false, eqb, Bool, inl, inr, sym, ap, ◌∙◌, subst, arith}
+use Rattle.std.proofs.Common.{◌≡◌, ℕ, ◌+◌, ◌-◌, ◌<◌, ◌≤◌, zero, suc, List, [], ◌∷◌, ◌++◌, append_assoc, length, get_or, take, drop, true, false, eqb, Bool, inl, inr, sym, ap, ◌∙◌, subst, arith}
 use Rattle.std.specs.Prelude.{◌↔◌}
-use Rattle.std.proofs.lemmas.List.{drop_more, drop_all, get_or_default, nil_from_length}
+use Rattle.std.proofs.lemmas.List.{append-nil, take_more, map-append, drop_more, drop_all, get_or_default, nil_from_length}
 use Rattle.ut_logic.specs.declared.literals.Lit.{Lit}
 use Rattle.log_check.specs.declared.derivations.PivotOf.{PivotOf}
 use Rattle.log_check.specs.declared.derivations.Chain.{Chain}
 use Rattle.log_check.specs.Resolution.{IsResolvent}
 use Rattle.log_check.specs.declared.derivations.DerivationLine.{DerivationLine}
-use Rattle.log_check.specs.Derivations.{IsNumbered, ResolvesTo, ChainGives, IsRight, AreRight, IsWrongAt, IsFirstWrong, Refutes}
-use Rattle.std.proofs.lemmas.Bool.{cases_lt, eqb-true, eqb-false}
+use Rattle.log_check.specs.Derivations.{results, AreTaken, EndsEmpty, IsNumbered, ResolvesTo, ChainGives, IsRight, AreRight, IsWrongAt, IsFirstWrong, Refutes}
+use Rattle.std.proofs.lemmas.Bool.{cases_lt, eqb-true}
+use Rattle.ut_text.proofs.DecimalLaws.{some_from_test}
 
 pub numbered_once : (known : List (List Lit)) (n : ℕ) (c e : List Lit) → IsNumbered known n c → IsNumbered known n e → c ≡ e
 numbered_once known n c e (p, h, at) (q, k, bt) = sym at ∙ get_or_default known (n - 1) c e (omega arith) ∙ bt
@@ -52,6 +53,12 @@ right_more cs lines n line h at r here k d i = elim (cases_lt k n) [
       subst (λ j. IsRight cs (take j lines) (get_or lines j d)) e (subst (IsRight cs (take n lines)) same here)
 ]
 
+-- the results of one line more
+pub results_more : (lines : List DerivationLine) (n : ℕ) (line : DerivationLine) (before after : List (List Lit)) → n < length lines → line ≡ get_or lines n line → before ≡ results (take n lines) → after ≡ before ++ line.result ∷ [] → after ≡ results (take (n + 1) lines)
+results_more lines n line before after h at taken added =
+    let more : take (n + 1) lines ≡ take n lines ++ line ∷ [] = take_more lines n line h ∙ ap (λ x. take n lines ++ x ∷ []) (sym at) in
+    added ∙ ap (λ k. k ++ line.result ∷ []) taken ∙ sym (ap results more ∙ map-append (λ (x : DerivationLine). x.result) (take n lines) (line ∷ []))
+
 pub wrong_here : (cs : List (List Lit)) (lines : List DerivationLine) (n : ℕ) → n < length lines → AreRight cs lines n → IsWrongAt cs lines n → IsFirstWrong cs lines (n + 1)
 wrong_here cs lines n h r w =
     let e : n ≡ n + 1 - 1 = omega arith in
@@ -60,9 +67,6 @@ wrong_here cs lines n h r w =
 pub not_right : (cs : List (List Lit)) (lines : List DerivationLine) (n : ℕ) (line : DerivationLine) (said : Bool) → n < length lines → line ≡ get_or lines n line → (said ≡ true) ↔ IsRight cs (take n lines) line → said ≡ false → IsWrongAt cs lines n
 not_right cs lines n line said h at says denied d =
     inl (λ r. let e = says.1 (subst (IsRight cs (take n lines)) (sym (at ∙ get_or_default lines n line d h)) r) in cc)
-
-pub some_from_test : (n : ℕ) (b : Bool) → b ≡ eqb n 0 → b ≡ false → 0 < n
-some_from_test n b e f = let differ : n ≡ 0 → ⊥ = eqb-false n 0 (sym e ∙ f) in omega arith
 
 pub empty_result : (lines : List DerivationLine) (i : ℕ) (line : DerivationLine) (lits : List Lit) (b : Bool) → line ≡ get_or lines i line → lits ≡ (get_or lines i line).result → b ≡ eqb (length lits) 0 → b ≡ true → line.result ≡ []
 empty_result lines i line lits b at value e f =
@@ -97,3 +101,56 @@ wrong_refutes_not cs (x ∷ xs) n (inr (p, h, before, wrong)) r = elim (wrong x)
   | inr w ↦ let at : length (x ∷ xs) - 1 ≡ n - 1 = omega (arith, w.0) in
       w.1 (subst (λ k. (get_or (x ∷ xs) k x).result ≡ []) at (r.empty x))
 ]
+
+-- right lines, from the line after some others on
+RightFrom : List (List Lit) → List DerivationLine → List DerivationLine → Type 0
+RightFrom cs before lines = (k : ℕ) (d : DerivationLine) → k < length lines → IsRight cs (before ++ take k lines) (get_or lines k d)
+
+results-push : (cs : List (List Lit)) (before : List DerivationLine) (line : DerivationLine) → cs ++ results (before ++ line ∷ []) ≡ cs ++ results before ++ line.result ∷ []
+results-push cs before line =
+    ap (λ k. cs ++ k) (map-append (λ (x : DerivationLine). x.result) before (line ∷ [])) ∙ sym (append_assoc cs (results before) (line.result ∷ []))
+
+right_from_taken : (cs : List (List Lit)) (before lines : List DerivationLine) → AreTaken (cs ++ results before) lines → RightFrom cs before lines
+unfolding RightFrom
+right_from_taken cs before [] t k d h = absurd (omega (arith, h))
+right_from_taken cs before (line ∷ lines) (given, later) zero d h =
+    subst (λ (b : List DerivationLine). IsRight cs b line) (sym (append-nil before)) given
+right_from_taken cs before (line ∷ lines) (given, later) (suc k) d h =
+    let more : AreTaken (cs ++ results (before ++ line ∷ [])) lines = subst (λ known. AreTaken known lines) (sym (results-push cs before line)) later in
+    subst (λ (b : List DerivationLine). IsRight cs b (get_or lines k d)) (append_assoc before (line ∷ []) (take k lines))
+    (right_from_taken cs (before ++ line ∷ []) lines more k d (omega (arith, h)))
+
+taken_from_right : (cs : List (List Lit)) (before lines : List DerivationLine) → RightFrom cs before lines → AreTaken (cs ++ results before) lines
+unfolding RightFrom
+taken_from_right cs before [] r = tt
+taken_from_right cs before (line ∷ lines) r = (
+  subst (λ (b : List DerivationLine). IsRight cs b line) (append-nil before) (r 0 line (omega arith)),
+  subst (λ known. AreTaken known lines) (results-push cs before line)
+      (taken_from_right cs (before ++ line ∷ []) lines (λ k d h. subst (λ (b : List DerivationLine). IsRight cs b (get_or lines k d)) (sym (append_assoc before (line ∷ []) (take k lines))) (r (suc k) d (omega arith)))),
+)
+
+-- the last result is the empty clause
+ends_empty : (lines : List DerivationLine) → 0 < length lines → ((d : DerivationLine) → (get_or lines (length lines - 1) d).result ≡ []) → EndsEmpty lines
+ends_empty [] some e = absurd (omega (arith, some))
+ends_empty (line ∷ []) some e = e line
+ends_empty (line ∷ next ∷ lines) some e =
+    let last : length (line ∷ next ∷ lines) - 1 ≡ suc (length (next ∷ lines) - 1) = omega arith in
+    ends_empty (next ∷ lines) (omega arith) (λ d. subst (λ k. (get_or (line ∷ next ∷ lines) k d).result ≡ []) last (e d))
+
+last_empty : (lines : List DerivationLine) → EndsEmpty lines → (0 < length lines) × ((d : DerivationLine) → (get_or lines (length lines - 1) d).result ≡ [])
+last_empty [] e = absurd e
+last_empty (line ∷ []) e = (omega arith, λ d. e)
+last_empty (line ∷ next ∷ lines) e =
+    let last : suc (length (next ∷ lines) - 1) ≡ length (line ∷ next ∷ lines) - 1 = omega arith in
+    (omega arith, λ d. subst (λ k. (get_or (line ∷ next ∷ lines) k d).result ≡ []) last ((last_empty (next ∷ lines) e).1 d))
+
+pub taken_refute : (cs : List (List Lit)) (lines : List DerivationLine) → Refutes cs lines ↔ (AreTaken cs lines × EndsEmpty lines)
+unfolding RightFrom
+taken_refute cs lines = (
+  λ r. (subst (λ known. AreTaken known lines) (append-nil cs) (taken_from_right cs [] lines (λ k d h. r.right k d h)), ends_empty lines r.some r.empty),
+  λ (t, e). record {
+    some = (last_empty lines e).0;
+    right = λ k d h. right_from_taken cs [] lines (subst (λ known. AreTaken known lines) (sym (append-nil cs)) t) k d h;
+    empty = (last_empty lines e).1;
+  },
+)

@@ -3,8 +3,7 @@ pub mod Resolvents
 pub mod Deriving
 pub mod Soundness
 pub mod Verdicts
-pub mod Decimals
-pub mod Pieces
-pub mod Repeated
-pub mod Lines
-pub mod WholeTexts
+pub mod PieceLaws
+pub mod Apart
+pub mod StepLaws
+pub mod TextLaws

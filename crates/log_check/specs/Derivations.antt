@@ -49,3 +49,14 @@ IsWrongAt clauses lines k = (d : DerivationLine) →
 abbrev pub IsFirstWrong : List (List Lit) → List DerivationLine → ℕ → Type 0
 IsFirstWrong clauses lines n = ((n ≡ 0) × (lines ≡ []))
     ⊎ ((0 < n) × (n ≤ length lines) × AreRight clauses lines (n - 1) × IsWrongAt clauses lines (n - 1))
+
+-- each line's result is what its chain gives from the known clauses and the results of the lines before it
+abbrev pub AreTaken : List (List Lit) → List DerivationLine → Type 0
+AreTaken known [] = Unit {0}
+AreTaken known (line ∷ lines) = ChainGives known line.chain line.result × AreTaken (known ++ line.result ∷ []) lines
+
+-- there is a last line, and its result is the empty clause
+abbrev pub EndsEmpty : List DerivationLine → Type 0
+EndsEmpty [] = ⊥
+EndsEmpty (line ∷ []) = line.result ≡ []
+EndsEmpty (line ∷ next ∷ lines) = EndsEmpty (next ∷ lines)

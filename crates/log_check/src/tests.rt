@@ -69,7 +69,7 @@ fn names(alloc: Global, text: &[u8], line: u32) -> bool {
     }
 }
 
-/// The clauses that ask for a block behind two symbols, of which none is left.
+/// The clauses that ask for a block that needs two symbols, of which none is left.
 const WORKED: [&[i32]; 17] = [
     &[1, -2],
     &[3],

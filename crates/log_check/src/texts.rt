@@ -1,9 +1,11 @@
-ghost use Rattle.std.specs.Prelude.{◌≡◌, ◌⊎◌, ◌↔◌, ◌+◌, ◌<◌, ◌≤◌, ℕ, [], length, Err, IfOk, IsTrue, MatchResult};
-ghost use Rattle.log_check.specs.DerivationText.{IsFirstOutside, IsTextOf};
+ghost use Rattle.std.specs.Prelude.{◌≡◌, ◌⊎◌, ◌↔◌, ◌+◌, ◌<◌, ◌≤◌, ℕ, length, Err, IfOk, IsTrue, MatchResult};
+ghost use Rattle.line_texts.specs.Grammar.{Says};
+ghost use Rattle.line_texts.specs.Lines.{whole_lines};
+ghost use Rattle.log_check.specs.DerivationText.{Ends, IsFirstOutside, IsTextOf, MayFollow, Takes, at_start};
 
-use crate::cursor::Cursor;
 use crate::derivations::{Derivation, DerivationLine};
-use crate::reading::read_line;
+use crate::steps::read_step;
+use line_texts::split_whole_line;
 use std::alloc::{AllocError, AllocFailed, Global};
 use thiserror::Error;
 use ut_logic::Sequence;
@@ -15,6 +17,7 @@ pub enum TextLineBad {
     #[error("line {number} is no line of a derivation")]
     Line { number: u32 },
 
+    /// Memory ran out.
     #[error("out of memory")]
     Oom,
 }
@@ -41,37 +44,39 @@ impl From<AllocFailed<DerivationLine>> for TextLineBad {
     }
 }
 
-/// Whether a line with this number goes on with those, of which the first has the first number.
-fn goes_on(first: u64, lines: &[DerivationLine], number: u64) -> bool
-    ensures { IsTrue result ↔ (0 < number) × ((lines.now ≡ []) ⊎ (number ≡ first + length lines.now)) }
+/// Whether a step with this number may come after one with the last number; 0 stands for no step before it.
+fn may_follow(last: u64, number: u64) -> bool
+    ensures { IsTrue result ↔ MayFollow last number }
 {
     if number == 0 {
         return false;
     }
-    if lines.is_empty() {
-        return true;
-    }
-    number >= first && number - first == lines.len() as u64
+    last == 0 || number - 1 == last
 }
 
 fn read_lines(alloc: Global, bytes: &[u8]) -> Result<Vec<DerivationLine>, TextLineBad>
     requires { length bytes.now ≤ 16777216 }
-    ensures reads { IfOk result (λ lines. (n : ℕ) × IsTextOf n lines.items bytes.now) }
+    ensures reads { IfOk result (λ lines. Says Takes Ends at_start (whole_lines bytes.now) lines.items) }
     ensures line { (number : ℕ) → result ≡ Err (TextLineBad.Line number) → IsFirstOutside bytes.now number }
 {
-    let mut cursor = Cursor::new(bytes);
-    let mut first = 1;
+    let mut rest = bytes;
+    let mut number: u32 = 1;
+    let mut last = 0;
     let mut lines: Vec<DerivationLine> = Vec::new(alloc);
-    while !cursor.is_at_end() {
-        let place = lines.len() as u32 + 1;
-        let Some((number, line)) = read_line(alloc, &mut cursor)? else {
-            return Err(TextLineBad::Line { number: place });
+    while !rest.is_empty() {
+        let Some((step, after)) = split_whole_line(rest) else {
+            return Err(TextLineBad::Line { number });
         };
-        if !goes_on(first, lines.as_slice(), number) {
-            return Err(TextLineBad::Line { number: place });
+        let Some((step_number, line)) = read_step(alloc, step)? else {
+            return Err(TextLineBad::Line { number });
+        };
+        if !may_follow(last, step_number) {
+            return Err(TextLineBad::Line { number });
         }
-        first = number - lines.len() as u64;
         lines.push(line)?;
+        last = step_number;
+        rest = after;
+        number += 1;
     }
     Ok(lines)
 }

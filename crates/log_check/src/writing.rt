@@ -1,7 +1,6 @@
-ghost use Rattle.std.specs.Prelude.{◌≡◌, ◌+◌, ◌++◌, ◌<◌, ◌^◌, length, codes, decimal, All, IfOk, OnOk};
+ghost use Rattle.std.specs.Prelude.{◌≡◌, ◌+◌, ◌++◌, ◌<◌, ◌^◌, length, decimal, All, IfOk, OnOk};
 ghost use Rattle.std.specs.List.{flat_map};
-ghost use Rattle.log_check.specs.DerivationText.{CountFromOne, IsPrintable, IsTextOf, chain_text, line_text, literal_text, pair_text, text_of};
-ghost use Rattle.log_check.specs.Reading.{IsPair};
+ghost use Rattle.log_check.specs.DerivationText.{IsPair, IsStep, IsTextOf, chain_text, literal_text, pair_text, step_text, text_of};
 
 use crate::derivations::{Chain, Derivation, DerivationLine, PivotOf};
 use itoa::Buffer;
@@ -56,13 +55,16 @@ fn push_chain(text: &mut Vec<u8>, chain: &Chain) -> Result<(), AllocError>
     for pair in chain.pairs.as_slice() {
         push_pair(text, *pair)?;
     }
-    text.extend_from_slice(b"\n")
+    Ok(())
 }
 
-fn push_line(text: &mut Vec<u8>, number: u64, line: &DerivationLine) -> Result<(), AllocError>
-    ensures text { OnOk result (text.new.items ≡ text.old.items ++ line_text number line.now) }
-    ensures fits { number < 2 ^ 64 }
-    ensures printable { OnOk result (CountFromOne line.now → IsPrintable line.now) }
+/// Appends a line of a derivation to a text, as the step with this number and without a newline.
+///
+/// The only error is want of memory, after which a part of the step may stand at the end of the text. This project's rule.
+pub fn push_step(text: &mut Vec<u8>, number: u64, line: &DerivationLine) -> Result<(), AllocError>
+    ensures text { OnOk result (text.new.items ≡ text.old.items ++ step_text number line.now) }
+    // So it is read back as the same number and line.
+    ensures grammar { OnOk result (IsStep number line.now (step_text number line.now)) }
 {
     text.extend_from_slice(b" step ")?;
     push_number(text, number)?;
@@ -79,14 +81,14 @@ pub fn derivation_text(alloc: Global, cnf: &Cnf, d: &Derivation) -> Result<Vec<u
     ensures text { IfOk result (λ text. text.items ≡ text_of (length cnf.now.clauses + 1) d.now.lines) }
 
     // So it is read back as the same derivation.
-    ensures grammar { IfOk result (λ text.
-        All CountFromOne d.now.lines → IsTextOf (length cnf.now.clauses + 1) d.now.lines text.items) }
+    ensures grammar { IfOk result (λ text. IsTextOf (length cnf.now.clauses + 1) d.now.lines text.items) }
 {
     let mut text = Vec::new(alloc);
     let count = cnf.clauses.as_slice().len();
     let lines = d.lines.as_slice();
     for at in 0..lines.len() {
-        push_line(&mut text, (count + at) as u64 + 1, &lines[at])?;
+        push_step(&mut text, (count + at) as u64 + 1, &lines[at])?;
+        text.extend_from_slice(b"\n")?;
     }
     Ok(text)
 }

@@ -1,8 +1,7 @@
 use Rattle.std.proofs.Common.{◌≡◌, ◌++◌, take}
 use Rattle.std.specs.Prelude.{All, decimal}
 use Rattle.std.specs.List.{flat_map}
-use Rattle.log_check.specs.DerivationText.{pair_text}
-use Rattle.log_check.specs.Reading.{IsPair}
+use Rattle.log_check.specs.DerivationText.{pair_text, IsPair}
 use Rattle.log_check.proofs.writing.push_chain.Given as goal
 
 abbrev pub invariant-loop-pair : goal.invariant-loop-pair

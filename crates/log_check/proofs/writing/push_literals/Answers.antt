@@ -2,7 +2,7 @@ use Rattle.std.proofs.Common.{◌^◌, ◌<◌}
 use Rattle.std.proofs.lemmas.List.Elements.{All-more}
 use Rattle.ut_logic.specs.declared.literals.Lit.{Lit}
 use Rattle.log_check.specs.DerivationText.{literal_text}
-use Rattle.log_check.proofs.WholeTexts.{element_written}
+use Rattle.line_texts.proofs.ListTexts.{element_written}
 use Rattle.log_check.proofs.writing.push_literals.Goals as goal
 
 pub loop-lit-preserved : goal.loop-lit-preserved

@@ -1,6 +1,0 @@
-use Rattle.log_check.proofs.Pieces.{head_no_word}
-use Rattle.log_check.proofs.cursor.Cursor.head.Goals as goal
-
-pub returns-then-not-word-2-clause-none : goal.returns-then-not-word-2-clause-none
-returns-then-not-word-2-clause-none c =
-    head_no_word _ _ _ _ c.if-not-word.ensures.passed c.in_ok-number.ensures.found c.if-not-word-2.ensures.other

@@ -1,7 +1,0 @@
-use Rattle.log_check.proofs.Lines.{body_chain}
-use Rattle.log_check.proofs.reading.read_body.Goals as goal
-
-pub returns-in_default-2 : goal.returns-in_default-2
-returns-in_default-2 c = λ line rest h.
-    let none = rw c.in_default-2.is at c.in_ok-chain.ensures in
-    none line.chain rest (body_chain _ _ _ line rest (rw c.in-Some.is at c.in_ok-result.ensures) h)
