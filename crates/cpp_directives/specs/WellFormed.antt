@@ -3,6 +3,7 @@
 -- Rule: ISO C, "Conditional inclusion"; the limits are this project's.
 use Rattle.std.specs.Prelude.{◌≡◌, ℕ, ◌+◌, ◌≤◌, Bool, true, false, not, ◌&&◌, nat_lt, List, [], ◌∷◌, length}
 use Rattle.std.specs.List.{count_by}
+use Rattle.cpp_directives.specs.Limits.{most_depth, most_groups, most_blocks}
 use Rattle.cpp_directives.specs.declared.directive.Directive.{Directive}
 use Rattle.cpp_directives.specs.declared.directive.What.{What}
 use Rattle.cpp_directives.specs.declared.directive.What.TheVariants.{If, Elif, Else, Endif, Define, Undef}
@@ -31,7 +32,7 @@ chains_after cs (Undef name) = cs
 -- a chain is open, without its `#else` and with room for one more group
 abbrev pub takes_group : List Chain → Bool
 takes_group [] = false
-takes_group (c ∷ cs) = not c.has_else && nat_lt c.groups 1024
+takes_group (c ∷ cs) = not c.has_else && nat_lt c.groups most_groups
 
 -- some chain is open
 abbrev pub is_inside : List Chain → Bool
@@ -40,7 +41,7 @@ is_inside (c ∷ cs) = true
 
 -- whether a directive may stand inside these chains
 abbrev pub may_stand : List Chain → What → Bool
-may_stand cs (If cond) = nat_lt (length cs) 250
+may_stand cs (If cond) = nat_lt (length cs) most_depth
 may_stand cs (Elif cond) = takes_group cs
 may_stand cs Else = takes_group cs
 may_stand cs Endif = is_inside cs
@@ -74,4 +75,4 @@ block_count ds = count_by (λ d. begins_block d.what) ds
 pub record IsWellFormed (ds : List Directive) : Type 0 where
   pub chains : chains_match [] ds ≡ true
   pub lines : lines_rise 0 ds ≡ true
-  pub blocks : block_count ds ≤ 65535
+  pub blocks : block_count ds ≤ most_blocks

@@ -1,5 +1,5 @@
 use sqlite_items::{Boxed, Items};
-use ut_logic::Text;
+use ut_text::Text;
 
 /// A condition of `#if` or `#elif`.
 #[derive(Drop)]

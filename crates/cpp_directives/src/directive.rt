@@ -1,5 +1,5 @@
 use crate::condition::Cond;
-use ut_logic::Text;
+use ut_text::Text;
 
 /// What the body of a `#define` gives its macro as a truth.
 #[derive(Clone, Copy, Debug, PartialEq, Eq)]

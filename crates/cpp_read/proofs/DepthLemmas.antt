@@ -1,4 +1,4 @@
--- Laws of depth: the first part, and what stands behind its sign.
+-- Laws of depth: the first part, and what stands after its sign.
 use Rattle.std.proofs.Common.{◌≡◌, ℕ, ◌<◌, ◌≤◌, ◌∷◌, ◌++◌, ◌==◌, ◌&&◌, Bool, true, false, List, [], length, take, drop, suc, append_assoc, refl, ap, sym, ◌∙◌, arith}
 use Rattle.std.specs.Prelude.{Result, Ok, Err}
 use Rattle.std.proofs.lemmas.Bool.{false≢true, eqb-true}
@@ -8,7 +8,7 @@ use Rattle.cpp_directives.specs.declared.condition.Cond.{Cond}
 use Rattle.cpp_directives.specs.declared.bad.CppBad.{CppBad}
 use Rattle.cpp_read.specs.Depth.{parts_at, parts, before_at, joins, deeper}
 use Rattle.cpp_read.specs.Conditions.{Reader, each, negated}
-use Rattle.cpp_read.specs.ConditionSteps.{conds_behind}
+use Rattle.cpp_read.specs.ConditionSteps.{conds_after}
 use Rattle.cpp_read.specs.Refusals.{Fails}
 use Rattle.cpp_read.proofs.RefusalLemmas.{fails_by}
 
@@ -40,10 +40,10 @@ part_last j d (t ∷ ts) h = by (joins j t && d == 0) refl h (part_last j (deepe
     by false e h r = let k : before_at j (deeper d t) ts ≡ length ts = omega (arith, rw e at h) in rw (e, r k) refl
 
 pub one_more : (f : Reader) (front : List Cond) (p : List Token) (ps : List (List Token)) (c : Cond) → f p ≡ Ok c
-    → conds_behind front (each f (p ∷ ps)) ≡ conds_behind (front ++ c ∷ []) (each f ps)
+    → conds_after front (each f (p ∷ ps)) ≡ conds_after (front ++ c ∷ []) (each f ps)
 one_more f front p ps c h = rw h (joined (each f ps))
   where
-    joined : (read : Result (List Cond) CppBad) → conds_behind front (conds_behind (c ∷ []) read) ≡ conds_behind (front ++ c ∷ []) read
+    joined : (read : Result (List Cond) CppBad) → conds_after front (conds_after (c ∷ []) read) ≡ conds_after (front ++ c ∷ []) read
     joined (Ok cs) = ap (λ (xs : List Cond). Ok xs) (sym (append_assoc front (c ∷ []) cs))
     joined (Err e) = refl
 
@@ -60,19 +60,19 @@ first j d (t ∷ ts) = by (joins j t && d == 0) refl (first j (deeper d t) ts)
     by false e r = record { more = r.more; is = rw (e, r.is) refl }
 
 pub fails_part : (e : CppBad) (f : Reader) (front : List Cond) (j : Joint) (ts : List Token) (whole : Result (List Cond) CppBad)
-    → Fails e (f (take (before_at j 0 ts) ts)) → conds_behind front (each f (parts j ts)) ≡ whole → Fails e whole
-fails_part e f front j ts whole h w = fails_by e (f (take (before_at j 0 ts) ts)) whole (λ k is. sym w ∙ ap (λ (ps : List (List Token)). conds_behind front (each f ps)) (first j 0 ts).is ∙ rw is refl) h
+    → Fails e (f (take (before_at j 0 ts) ts)) → conds_after front (each f (parts j ts)) ≡ whole → Fails e whole
+fails_part e f front j ts whole h w = fails_by e (f (take (before_at j 0 ts) ts)) whole (λ k is. sym w ∙ ap (λ (ps : List (List Token)). conds_after front (each f ps)) (first j 0 ts).is ∙ rw is refl) h
 
 pub next_part : (f : Reader) (front new : List Cond) (j : Joint) (ts rest : List Token) (c : Cond) (whole : Result (List Cond) CppBad)
     → before_at j 0 ts < length ts → f (take (before_at j 0 ts) ts) ≡ Ok c → new ≡ front ++ c ∷ [] → rest ≡ drop (suc (before_at j 0 ts)) ts
-    → conds_behind front (each f (parts j ts)) ≡ whole → conds_behind new (each f (parts j rest)) ≡ whole
+    → conds_after front (each f (parts j ts)) ≡ whole → conds_after new (each f (parts j rest)) ≡ whole
 next_part f front new j ts rest c whole h r e d w = rw (e, d)
     (sym (one_more f front (take (before_at j 0 ts) ts) (parts j (drop (suc (before_at j 0 ts)) ts)) c r)
-    ∙ sym (ap (λ (ps : List (List Token)). conds_behind front (each f ps)) (part_step j 0 ts h)) ∙ w)
+    ∙ sym (ap (λ (ps : List (List Token)). conds_after front (each f ps)) (part_step j 0 ts h)) ∙ w)
 
 pub last_part : (f : Reader) (front new : List Cond) (j : Joint) (ts : List Token) (c : Cond) (whole : Result (List Cond) CppBad)
-    → before_at j 0 ts ≡ length ts → f ts ≡ Ok c → new ≡ front ++ c ∷ [] → conds_behind front (each f (parts j ts)) ≡ whole → whole ≡ Ok new
-last_part f front new j ts c whole h r e w = sym w ∙ ap (λ (ps : List (List Token)). conds_behind front (each f ps)) (part_last j 0 ts h) ∙ rw (r, e) refl
+    → before_at j 0 ts ≡ length ts → f ts ≡ Ok c → new ≡ front ++ c ∷ [] → conds_after front (each f (parts j ts)) ≡ whole → whole ≡ Ok new
+last_part f front new j ts c whole h r e w = sym w ∙ ap (λ (ps : List (List Token)). conds_after front (each f ps)) (part_last j 0 ts h) ∙ rw (r, e) refl
 
 pub fails_negated : (e : CppBad) (read : Result Cond CppBad) → Fails e read → Fails e (negated read)
 fails_negated e read h = fails_by e read (negated read) (λ k is. rw is refl) h

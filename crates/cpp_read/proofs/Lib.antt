@@ -1,10 +1,6 @@
-pub mod NamesLemmas
-pub mod LinesLemmas
-pub mod FirstFormLemmas
-pub mod FirstBadLineLemmas
 pub mod SplicesLemmas
 pub mod DirectiveLinesLemmas
-pub mod DullLemmas
+pub mod StopsLemmas
 pub mod TokensLemmas
 pub mod NumberLemmas
 pub mod RefusalLemmas

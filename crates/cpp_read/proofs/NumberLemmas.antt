@@ -2,6 +2,7 @@
 use Rattle.std.proofs.Common.{◌≡◌, ℕ, ◌+◌, ◌*◌, ◌^◌, ◌<◌, ◌≤◌, ◌∷◌, Bool, true, false, List, [], refl, sym, arith}
 use Rattle.std.specs.Prelude.{nat_lt, None, Some}
 use borrow.Author.Tests.{ltb-true, ltb-false}
+use Rattle.ut_text.specs.Bytes.{Bytes}
 use Rattle.cpp_read.specs.declared.number.Base.{Base}
 use Rattle.cpp_read.specs.declared.number.Base.TheVariants.{Octal, Decimal, Hexadecimal}
 use Rattle.cpp_read.specs.Numbers.{digits, digit_value}
@@ -12,7 +13,7 @@ onward Octal v d w h = omega arith
 onward Decimal v d w h = omega arith
 onward Hexadecimal v d w h = omega arith
 
-pub grows : (base : Base) (v : ℕ) (s : List ℕ) → v ≤ digits (base_of base) v s
+pub grows : (base : Base) (v : ℕ) (s : Bytes) → v ≤ digits (base_of base) v s
 grows base v [] = omega arith
 grows base v (b ∷ s) = onward base v (digit_value b) (digits (base_of base) (v * base_of base + digit_value b) s) (grows base (v * base_of base + digit_value b) s)
 
@@ -42,5 +43,5 @@ none_capped n m h k = by (nat_lt n (2 ^ 128)) (nat_lt m (2 ^ 128)) refl refl
     by false false e f = rw f refl
 
 -- a value that is past 128 bits with one more digit is so with all
-pub stays_wide : (base : Base) (v b : ℕ) (rest s : List ℕ) (n : ℕ) → None ≡ capped (v * base_of base + digit_value b) → s ≡ b ∷ rest → digits (base_of base) v s ≡ n → None ≡ capped n
+pub stays_wide : (base : Base) (v b : ℕ) (rest s : Bytes) (n : ℕ) → None ≡ capped (v * base_of base + digit_value b) → s ≡ b ∷ rest → digits (base_of base) v s ≡ n → None ≡ capped n
 stays_wide base v b rest s n h is w = none_capped (v * base_of base + digit_value b) n h (rw (sym w, is) (grows base (v * base_of base + digit_value b) rest))

@@ -3,13 +3,14 @@ use Rattle.std.proofs.Common.{◌≡◌, ℕ, ◌+◌, ◌<◌, ◌≤◌, Bool,
 use Rattle.std.proofs.Math.Seq.{drop-cons}
 use Rattle.std.proofs.lemmas.Bool.{false≢true, eqb-true}
 use Rattle.std.proofs.lemmas.List.{drop-drop, length-drop}
-use Rattle.cpp_read.specs.declared.cursor.Letter.{Letter}
-use Rattle.cpp_read.specs.Lines.{begins_newline}
-use Rattle.cpp_read.specs.LineEnds.{ends_line}
-use Rattle.cpp_read.specs.Splices.{letters, line_after, numbered, returnless, spliced}
+use Rattle.ut_text.specs.Bytes.{Bytes}
+use Rattle.cpp_read.specs.declared.cursor.PlacedByte.{PlacedByte}
+use Rattle.ut_text.specs.Lines.{begins_newline}
+use Rattle.ut_text.specs.LineEnds.{ends_line}
+use Rattle.cpp_read.specs.Splices.{spliced_bytes, line_after, numbered, returnless, spliced}
 use Rattle.cpp_read.specs.Cursors.{begins_return, begins_join, begins_return_join, begins_splice, Stands, Passes}
 
-pub at_front : (bytes : List ℕ) (at : ℕ) → at < length bytes → drop at bytes ≡ get_or bytes at 0 ∷ drop (at + 1) bytes
+pub at_front : (bytes : Bytes) (at : ℕ) → at < length bytes → drop at bytes ≡ get_or bytes at 0 ∷ drop (at + 1) bytes
 at_front bytes at h = rw (add-one, drop-cons bytes at 0) refl
 
 pub both_true : (x y : Bool) → (x && y) ≡ true → (x ≡ true) × (y ≡ true)
@@ -21,48 +22,48 @@ neither true y h = absurd (false≢true (sym h))
 neither false y h = (refl, h)
 
 -- a newline is kept
-newline_kept : (line : ℕ) (s : List Letter) → returnless (record { byte = 10; line = line } ∷ s) ≡ record { byte = 10; line = line } ∷ returnless s
+newline_kept : (line : ℕ) (s : List PlacedByte) → returnless (record { byte = 10; line = line } ∷ s) ≡ record { byte = 10; line = line } ∷ returnless s
 newline_kept line [] = refl
 newline_kept line (c ∷ s) = refl
 
-two_are : (a b x y : ℕ) (s : List ℕ) → (a == x) ≡ true → (b == y) ≡ true → a ∷ b ∷ s ≡ x ∷ y ∷ s
+two_are : (a b x y : ℕ) (s : Bytes) → (a == x) ≡ true → (b == y) ≡ true → a ∷ b ∷ s ≡ x ∷ y ∷ s
 two_are a b x y s p q = let e = eqb-true a x p in let f = eqb-true b y q in cc
 
-three_are : (a b c x y z : ℕ) (s : List ℕ) → (a == x) ≡ true → (b == y) ≡ true → (c == z) ≡ true → a ∷ b ∷ c ∷ s ≡ x ∷ y ∷ z ∷ s
+three_are : (a b c x y z : ℕ) (s : Bytes) → (a == x) ≡ true → (b == y) ≡ true → (c == z) ≡ true → a ∷ b ∷ c ∷ s ≡ x ∷ y ∷ z ∷ s
 three_are a b c x y z s p q r = let e = eqb-true a x p in let f = eqb-true b y q in let g = eqb-true c z r in cc
 
 -- the carriage return of a line end shows nothing
-return_step : (line : ℕ) (s : List ℕ) → begins_return s ≡ true → letters line (drop 1 s) ≡ letters line s
+return_step : (line : ℕ) (s : Bytes) → begins_return s ≡ true → spliced_bytes line (drop 1 s) ≡ spliced_bytes line s
 return_step line [] h = absurd (false≢true h)
 return_step line (a ∷ []) h = absurd (false≢true (both_true (a == 13) false h).1)
 return_step line (a ∷ b ∷ s) h =
     let w = both_true (a == 13) (b == 10) h in
     let e : a ∷ b ∷ s ≡ 13 ∷ 10 ∷ s = two_are a b 13 10 s w.0 w.1 in
-    ap (λ (t : List ℕ). letters line (drop 1 t)) e ∙ sym (ap (letters line) e)
+    ap (λ (t : Bytes). spliced_bytes line (drop 1 t)) e ∙ sym (ap (spliced_bytes line) e)
 
-joined : (line : ℕ) (s : List ℕ) → letters (line + 1) s ≡ letters line (92 ∷ 10 ∷ s)
-joined line s = sym (ap (λ (r : List Letter). spliced (record { byte = 92; line = line } ∷ r)) (newline_kept line (numbered (line + 1) s)))
+joined : (line : ℕ) (s : Bytes) → spliced_bytes (line + 1) s ≡ spliced_bytes line (92 ∷ 10 ∷ s)
+joined line s = sym (ap (λ (r : List PlacedByte). spliced (record { byte = 92; line = line } ∷ r)) (newline_kept line (numbered (line + 1) s)))
 
 -- nor do a backslash and a newline
-join_step : (line : ℕ) (s : List ℕ) → begins_join s ≡ true → letters (line + 1) (drop 2 s) ≡ letters line s
+join_step : (line : ℕ) (s : Bytes) → begins_join s ≡ true → spliced_bytes (line + 1) (drop 2 s) ≡ spliced_bytes line s
 join_step line [] h = absurd (false≢true h)
 join_step line (a ∷ []) h = absurd (false≢true (both_true (a == 92) false h).1)
 join_step line (a ∷ b ∷ s) h =
     let w = both_true (a == 92) (b == 10) h in
-    joined line s ∙ sym (ap (letters line) (two_are a b 92 10 s w.0 w.1))
+    joined line s ∙ sym (ap (spliced_bytes line) (two_are a b 92 10 s w.0 w.1))
 
 -- nor with a carriage return between them
-return_join_step : (line : ℕ) (s : List ℕ) → begins_return_join s ≡ true → letters (line + 1) (drop 3 s) ≡ letters line s
+return_join_step : (line : ℕ) (s : Bytes) → begins_return_join s ≡ true → spliced_bytes (line + 1) (drop 3 s) ≡ spliced_bytes line s
 return_join_step line [] h = absurd (false≢true h)
 return_join_step line (a ∷ []) h = absurd (false≢true (both_true (a == 92) false h).1)
 return_join_step line (a ∷ b ∷ []) h = absurd (false≢true (both_true (b == 13) false (both_true (a == 92) (b == 13 && false) h).1).1)
 return_join_step line (a ∷ b ∷ c ∷ s) h =
     let w = both_true (a == 92) (b == 13 && c == 10) h in
     let v = both_true (b == 13) (c == 10) w.1 in
-    joined line s ∙ sym (ap (letters line) (three_are a b c 92 13 10 s w.0 v.0 v.1))
+    joined line s ∙ sym (ap (spliced_bytes line) (three_are a b c 92 13 10 s w.0 v.0 v.1))
 
--- whether letters begin with a newline
-begins : List Letter → Bool
+-- whether spliced_bytes begin with a newline
+begins : List PlacedByte → Bool
 begins [] = false
 begins (c ∷ s) = c.byte == 10
 
@@ -75,7 +76,7 @@ never true = refl
 never false = refl
 
 -- a newline is first just where the text begins with a line end
-begins_ends : (line : ℕ) (s : List ℕ) → begins (returnless (numbered line s)) ≡ ends_line s
+begins_ends : (line : ℕ) (s : Bytes) → begins (returnless (numbered line s)) ≡ ends_line s
 unfolding begins
 begins_ends line [] = refl
 begins_ends line (c ∷ []) = rw (never (c == 13), left (c == 10)) refl
@@ -85,16 +86,16 @@ begins_ends line (c ∷ d ∷ s) = by (c == 13 && d == 10) refl
     by true e =
         let w = both_true (c == 13) (d == 10) e in
         let is = two_are c d 13 10 s w.0 w.1 in
-        ap (λ (t : List ℕ). begins (returnless (numbered line t))) is ∙ ap begins (newline_kept line (numbered (line + 1) s)) ∙ sym (ap ends_line is)
+        ap (λ (t : Bytes). begins (returnless (numbered line t))) is ∙ ap begins (newline_kept line (numbered (line + 1) s)) ∙ sym (ap ends_line is)
     by false e = rw (e, left (c == 10)) refl
 
--- a letter that is no splice with the next is kept
-letter_kept : (c : Letter) (s : List Letter) → (c.byte == 92 && begins s) ≡ false → spliced (c ∷ s) ≡ c ∷ spliced s
+-- a byte that is no splice with the next is kept
+byte_kept : (c : PlacedByte) (s : List PlacedByte) → (c.byte == 92 && begins s) ≡ false → spliced (c ∷ s) ≡ c ∷ spliced s
 unfolding begins
-letter_kept c [] h = refl
-letter_kept c (d ∷ s) h = rw h refl
+byte_kept c [] h = refl
+byte_kept c (d ∷ s) h = rw h refl
 
-first_kept : (line b : ℕ) (s : List ℕ) → begins_return (b ∷ s) ≡ false → returnless (numbered line (b ∷ s)) ≡ record { byte = b; line = line } ∷ returnless (numbered (line_after line b) s)
+first_kept : (line b : ℕ) (s : Bytes) → begins_return (b ∷ s) ≡ false → returnless (numbered line (b ∷ s)) ≡ record { byte = b; line = line } ∷ returnless (numbered (line_after line b) s)
 first_kept line b [] h = refl
 first_kept line b (c ∷ s) h = rw h refl
 
@@ -102,57 +103,57 @@ apart : (x y z : Bool) → ((x && y) || (x && z)) ≡ false → (x && (y || z)) 
 apart true y z h = h
 apart false y z h = refl
 
-no_line_end : (b : ℕ) (s : List ℕ) → begins_join (b ∷ s) ≡ false → begins_return_join (b ∷ s) ≡ false → (b == 92 && ends_line s) ≡ false
+no_line_end : (b : ℕ) (s : Bytes) → begins_join (b ∷ s) ≡ false → begins_return_join (b ∷ s) ≡ false → (b == 92 && ends_line s) ≡ false
 no_line_end b [] p q = never (b == 92)
 no_line_end b (c ∷ s) p q = apart (b == 92) (c == 10) (c == 13 && begins_newline s) (rw (p, q) refl)
 
--- a text that begins with no splice has its first byte as its first letter
-pub clear_step : (line b : ℕ) (s : List ℕ) → begins_splice (b ∷ s) ≡ false → letters line (b ∷ s) ≡ record { byte = b; line = line } ∷ letters (line_after line b) s
+-- a text that begins with no splice has its first byte as its first
+pub clear_step : (line b : ℕ) (s : Bytes) → begins_splice (b ∷ s) ≡ false → spliced_bytes line (b ∷ s) ≡ record { byte = b; line = line } ∷ spliced_bytes (line_after line b) s
 unfolding begins
 clear_step line b s h =
     let w = neither (begins_return (b ∷ s) || begins_join (b ∷ s)) (begins_return_join (b ∷ s)) h in
     let v = neither (begins_return (b ∷ s)) (begins_join (b ∷ s)) w.0 in
     ap spliced (first_kept line b s v.0)
-    ∙ letter_kept (record { byte = b; line = line }) (returnless (numbered (line_after line b) s)) (ap (λ x. b == 92 && x) (begins_ends (line_after line b) s) ∙ no_line_end b s v.1 w.1)
+    ∙ byte_kept (record { byte = b; line = line }) (returnless (numbered (line_after line b) s)) (ap (λ x. b == 92 && x) (begins_ends (line_after line b) s) ∙ no_line_end b s v.1 w.1)
 
 -- the same at a place of a text
-pub clear_at : (bytes : List ℕ) (at line : ℕ) → at < length bytes → begins_splice (drop at bytes) ≡ false
-    → letters line (drop at bytes) ≡ record { byte = get_or bytes at 0; line = line } ∷ letters (line_after line (get_or bytes at 0)) (drop (at + 1) bytes)
+pub clear_at : (bytes : Bytes) (at line : ℕ) → at < length bytes → begins_splice (drop at bytes) ≡ false
+    → spliced_bytes line (drop at bytes) ≡ record { byte = get_or bytes at 0; line = line } ∷ spliced_bytes (line_after line (get_or bytes at 0)) (drop (at + 1) bytes)
 clear_at bytes at line h clear = let e = at_front bytes at h in
-    ap (letters line) e ∙ clear_step line (get_or bytes at 0) (drop (at + 1) bytes) (ap begins_splice (sym e) ∙ clear)
+    ap (spliced_bytes line) e ∙ clear_step line (get_or bytes at 0) (drop (at + 1) bytes) (ap begins_splice (sym e) ∙ clear)
 
-long_return : (s : List ℕ) → begins_return s ≡ true → 1 ≤ length s
+long_return : (s : Bytes) → begins_return s ≡ true → 1 ≤ length s
 long_return [] h = absurd (false≢true h)
 long_return (a ∷ s) h = omega arith
 
-long_join : (s : List ℕ) → begins_join s ≡ true → 2 ≤ length s
+long_join : (s : Bytes) → begins_join s ≡ true → 2 ≤ length s
 long_join [] h = absurd (false≢true h)
 long_join (a ∷ []) h = absurd (false≢true (both_true (a == 92) false h).1)
 long_join (a ∷ b ∷ s) h = omega arith
 
-long_return_join : (s : List ℕ) → begins_return_join s ≡ true → 3 ≤ length s
+long_return_join : (s : Bytes) → begins_return_join s ≡ true → 3 ≤ length s
 long_return_join [] h = absurd (false≢true h)
 long_return_join (a ∷ []) h = absurd (false≢true (both_true (a == 92) false h).1)
 long_return_join (a ∷ b ∷ []) h = absurd (false≢true (both_true (b == 13) false (both_true (a == 92) (b == 13 && false) h).1).1)
 long_return_join (a ∷ b ∷ c ∷ s) h = omega arith
 
-pub return_passes : (bytes : List ℕ) (at line : ℕ) → Stands bytes at line → begins_return (drop at bytes) ≡ true → Passes bytes at line (at + 1) line
+pub return_passes : (bytes : Bytes) (at line : ℕ) → Stands bytes at line → begins_return (drop at bytes) ≡ true → Passes bytes at line (at + 1) line
 return_passes bytes at line s h = record {
-  same = ap (letters line) (sym (drop-drop 1 at bytes)) ∙ return_step line (drop at bytes) h;
+  same = ap (spliced_bytes line) (sym (drop-drop 1 at bytes)) ∙ return_step line (drop at bytes) h;
   stands = record { small = s.small; within = omega (arith, long_return (drop at bytes) h, length-drop at bytes, s.within); counted = omega (arith, s.counted) };
   onward = omega arith;
 }
 
-pub join_passes : (bytes : List ℕ) (at line : ℕ) → Stands bytes at line → begins_join (drop at bytes) ≡ true → Passes bytes at line (at + 2) (line + 1)
+pub join_passes : (bytes : Bytes) (at line : ℕ) → Stands bytes at line → begins_join (drop at bytes) ≡ true → Passes bytes at line (at + 2) (line + 1)
 join_passes bytes at line s h = record {
-  same = ap (letters (line + 1)) (sym (drop-drop 2 at bytes)) ∙ join_step line (drop at bytes) h;
+  same = ap (spliced_bytes (line + 1)) (sym (drop-drop 2 at bytes)) ∙ join_step line (drop at bytes) h;
   stands = record { small = s.small; within = omega (arith, long_join (drop at bytes) h, length-drop at bytes, s.within); counted = omega (arith, s.counted) };
   onward = omega arith;
 }
 
-pub return_join_passes : (bytes : List ℕ) (at line : ℕ) → Stands bytes at line → begins_return_join (drop at bytes) ≡ true → Passes bytes at line (at + 3) (line + 1)
+pub return_join_passes : (bytes : Bytes) (at line : ℕ) → Stands bytes at line → begins_return_join (drop at bytes) ≡ true → Passes bytes at line (at + 3) (line + 1)
 return_join_passes bytes at line s h = record {
-  same = ap (letters (line + 1)) (sym (drop-drop 3 at bytes)) ∙ return_join_step line (drop at bytes) h;
+  same = ap (spliced_bytes (line + 1)) (sym (drop-drop 3 at bytes)) ∙ return_join_step line (drop at bytes) h;
   stands = record { small = s.small; within = omega (arith, long_return_join (drop at bytes) h, length-drop at bytes, s.within); counted = omega (arith, s.counted) };
   onward = omega arith;
 }

@@ -3,11 +3,11 @@
 use Rattle.std.specs.Prelude.{◌≡◌, Result, Ok, Err, List, []}
 use Rattle.cpp_read.specs.declared.chains.Chain.{Chain}
 use Rattle.cpp_directives.specs.declared.bad.CppBad.{CppBad}
-use Rattle.cpp_read.specs.Chains.{Blocks, at_end}
+use Rattle.cpp_read.specs.Chains.{ChainState, at_end}
 use Rattle.cpp_read.specs.Refusals.{Fails}
 
 -- what a step answers, and what it leaves
-abbrev pub Steps : Result (Unit {0}) CppBad → Blocks → Result Blocks CppBad → Type 0
+abbrev pub Steps : Result (Unit {0}) CppBad → ChainState → Result ChainState CppBad → Type 0
 Steps (Ok u) new read = read ≡ Ok new
 Steps (Err e) new read = Fails e read
 

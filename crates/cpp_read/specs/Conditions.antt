@@ -15,7 +15,7 @@ use Rattle.cpp_read.specs.Numbers.{whole}
 use Rattle.cpp_read.specs.Depth.{parts, has, is_group, is_balanced}
 use Rattle.cpp_read.specs.SignsOver.{outermost, signs_fit}
 use Rattle.cpp_read.specs.Operands.{piece_text, is_negation, leaf_of, or_piece}
-use Rattle.cpp_read.specs.Refusals.{◌>>=◌}
+use Rattle.ut_text.specs.Results.{◌>>=◌}
 
 -- a reader of lists
 abbrev pub Reader : Type 0

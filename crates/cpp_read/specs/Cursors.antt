@@ -1,47 +1,50 @@
--- What the readers of letters promise each other, and the next byte of a text.
+-- What the readers of spliced lines promise each other, and the next byte of a text.
 -- This project's own; of it `Comments` takes `first` alone.
 use Rattle.std.specs.Prelude.{◌≡◌, ◌≤◌, ◌<◌, ◌+◌, ℕ, Bool, false, ◌==◌, ◌&&◌, ◌||◌, Option, None, Some, length, drop, List, [], ◌∷◌}
-use Rattle.cpp_read.specs.declared.cursor.Letter.{Letter}
-use Rattle.cpp_read.specs.Lines.{begins_newline}
-use Rattle.cpp_read.specs.Splices.{letters}
+use Rattle.ut_text.specs.Bytes.{Bytes, carriage_return}
+use Rattle.cpp_directives.specs.Limits.{most_bytes}
+use Rattle.cpp_read.specs.Characters.{backslash}
+use Rattle.cpp_read.specs.declared.cursor.PlacedByte.{PlacedByte}
+use Rattle.ut_text.specs.Lines.{begins_newline}
+use Rattle.cpp_read.specs.Splices.{spliced_bytes}
 
 -- a carriage return and a newline
-abbrev pub begins_return : List ℕ → Bool
+abbrev pub begins_return : Bytes → Bool
 begins_return [] = false
-begins_return (b ∷ s) = b == 13 && begins_newline s
+begins_return (b ∷ s) = b == carriage_return && begins_newline s
 
 -- a backslash and a newline
-abbrev pub begins_join : List ℕ → Bool
+abbrev pub begins_join : Bytes → Bool
 begins_join [] = false
-begins_join (b ∷ s) = b == 92 && begins_newline s
+begins_join (b ∷ s) = b == backslash && begins_newline s
 
 -- a backslash, a carriage return and a newline
-abbrev pub begins_return_join : List ℕ → Bool
+abbrev pub begins_return_join : Bytes → Bool
 begins_return_join [] = false
-begins_return_join (b ∷ s) = b == 92 && begins_return s
+begins_return_join (b ∷ s) = b == backslash && begins_return s
 
--- whether bytes at the front show nothing
-abbrev pub begins_splice : List ℕ → Bool
+-- whether a splice, or the carriage return of a line end, stands at the front
+abbrev pub begins_splice : Bytes → Bool
 begins_splice s = begins_return s || begins_join s || begins_return_join s
 
 -- the first byte
-abbrev pub first : List Letter → Option ℕ
+abbrev pub first : List PlacedByte → Option ℕ
 first [] = None
 first (c ∷ s) = Some c.byte
 
--- a step of a reader: the first letter, and what is left
-abbrev pub Takes : List Letter → Option Letter → List Letter → Type 0
+-- a step of a reader: the first byte, and what is left
+abbrev pub Takes : List PlacedByte → Option PlacedByte → List PlacedByte → Type 0
 Takes old None new = (old ≡ []) × (new ≡ [])
 Takes old (Some c) new = old ≡ c ∷ new
 
 -- where a cursor may stand
-pub record Stands (bytes : List ℕ) (at line : ℕ) : Type 0 where
-  pub small : length bytes ≤ 16777216
+pub record Stands (bytes : Bytes) (at line : ℕ) : Type 0 where
+  pub small : length bytes ≤ most_bytes
   pub within : at ≤ length bytes
   pub counted : line ≤ at + 1
 
--- bytes that show nothing are passed
-pub record Passes (bytes : List ℕ) (at line to number : ℕ) : Type 0 where
-  pub same : letters number (drop to bytes) ≡ letters line (drop at bytes)
+-- a splice, or the carriage return of a line end, is passed
+pub record Passes (bytes : Bytes) (at line to number : ℕ) : Type 0 where
+  pub same : spliced_bytes number (drop to bytes) ≡ spliced_bytes line (drop at bytes)
   pub stands : Stands bytes to number
   pub onward : at < to

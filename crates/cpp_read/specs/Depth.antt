@@ -12,7 +12,7 @@ joins joint.Pick t = is_sign (codes "?") t || is_sign (codes ",") t
 joins joint.Any t = is_sign (codes "||") t
 joins joint.All t = is_sign (codes "&&") t
 
--- the depth behind a token
+-- the depth after a token
 abbrev pub deeper : ℕ → Token → ℕ
 deeper d t = if is_open t then d + 1 else if is_close t then d - 1 else d
 

@@ -4,19 +4,20 @@ use Rattle.std.specs.Prelude.{◌≡◌, ◌++◌, Option, option_to_list, Resul
 use Rattle.cpp_directives.specs.declared.bad.CppBad.{CppBad}
 use Rattle.cpp_directives.specs.declared.directive.What.{What}
 use Rattle.cpp_directives.specs.declared.directive.Directive.{Directive}
-use Rattle.cpp_read.specs.Chains.{Blocks}
-use Rattle.cpp_read.specs.Refusals.{◌>>=◌, Fails}
+use Rattle.cpp_read.specs.Chains.{ChainState}
+use Rattle.ut_text.specs.Results.{◌>>=◌}
+use Rattle.cpp_read.specs.Refusals.{Fails}
 
 -- what a line says, if it says something
 abbrev pub Says : Result (Option What) CppBad → Result (List What) CppBad → Type 0
 Says (Ok w) read = read ≡ Ok (option_to_list w)
 Says (Err e) read = Fails e read
 
--- the directive of a line, if it has one, and the chains behind it
-abbrev pub ReadsLine : Result (Option Directive) CppBad → Blocks → Result (Blocks × List Directive) CppBad → Type 0
+-- the directive of a line, if it has one, and the chains after it
+abbrev pub ReadsLine : Result (Option Directive) CppBad → ChainState → Result (ChainState × List Directive) CppBad → Type 0
 ReadsLine (Ok d) new read = read ≡ Ok (new, option_to_list d)
 ReadsLine (Err e) new read = Fails e read
 
--- the directives of what is left, behind these
-abbrev pub directives_behind : List Directive → Result (List Directive) CppBad → Result (List Directive) CppBad
-directives_behind front read = read >>= λ ds. Ok (front ++ ds)
+-- the directives of what is left, after these
+abbrev pub directives_after : List Directive → Result (List Directive) CppBad → Result (List Directive) CppBad
+directives_after front read = read >>= λ ds. Ok (front ++ ds)

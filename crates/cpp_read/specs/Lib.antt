@@ -1,6 +1,6 @@
 -- what the contracts of public calls rest on
 pub mod Refusals
-pub mod Names
+pub mod Characters
 pub mod Splices
 pub mod Comments
 pub mod DirectiveLines
@@ -15,18 +15,13 @@ pub mod Conditions
 pub mod Condition
 pub mod Chains
 pub mod Directives
-pub mod Lines
-pub mod FirstForm
-pub mod FirstBadLine
 -- what functions promise each other
 pub mod Cursors
 pub mod LineSteps
-pub mod Dull
+pub mod Stops
 pub mod TokenSteps
 pub mod NumberSteps
 pub mod OverSteps
 pub mod ConditionSteps
 pub mod ChainSteps
 pub mod DirectiveSteps
-pub mod LineEnds
-pub mod FirstReading

@@ -3,8 +3,8 @@
 use Rattle.std.specs.Prelude.{ℕ, Bool, ◌^◌, nat_lt, Option, None, Some, if◌then◌else◌}
 use Rattle.cpp_read.specs.declared.number.Base.{Base}
 use Rattle.cpp_read.specs.declared.number.Base.TheVariants.{Octal, Decimal, Hexadecimal}
-use Rattle.cpp_read.specs.Names.{is_digit}
-use Rattle.cpp_read.specs.Numbers.{is_octal, is_hex}
+use Rattle.ut_text.specs.ByteClasses.{is_digit, is_hex_digit}
+use Rattle.cpp_read.specs.Numbers.{is_octal}
 
 -- a number, if it needs at most 128 bits
 abbrev pub capped : ℕ → Option ℕ
@@ -20,4 +20,4 @@ base_of Hexadecimal = 16
 abbrev pub is_one_of : Base → ℕ → Bool
 is_one_of Octal = is_octal
 is_one_of Decimal = is_digit
-is_one_of Hexadecimal = is_hex
+is_one_of Hexadecimal = is_hex_digit

@@ -3,6 +3,7 @@
 -- project's.
 use Rattle.std.specs.Prelude.{ℕ, ◌++◌, Bool, true, false, not, ◌&&◌, ◌||◌, bytes_eq, codes, drop, Option, None, Some, List, [], ◌∷◌, if◌then◌else◌}
 use Rattle.std.specs.List.{prefix_len}
+use Rattle.ut_text.specs.Bytes.{Bytes, space}
 use Rattle.cpp_read.specs.declared.token.Token.{Token}
 use Rattle.cpp_read.specs.declared.token.Token.TheVariants.{Ident, Number, Quoted, Sign}
 use Rattle.cpp_directives.specs.declared.condition.Cond.{Cond}
@@ -13,11 +14,11 @@ use Rattle.cpp_read.specs.Numbers.{whole}
 use Rattle.cpp_read.specs.Signs.{is_word, is_ident, is_atom, is_open, is_close, is_not, text_of}
 use Rattle.cpp_read.specs.Depth.{is_group}
 
--- the texts of tokens, joined by one space (32)
-abbrev pub piece_text : List Token → List ℕ
+-- the texts of tokens, joined by one space
+abbrev pub piece_text : List Token → Bytes
 piece_text [] = []
 piece_text (t ∷ []) = text_of t
-piece_text (t ∷ u ∷ ts) = text_of t ++ 32 ∷ piece_text (u ∷ ts)
+piece_text (t ∷ u ∷ ts) = text_of t ++ space ∷ piece_text (u ∷ ts)
 
 -- one token
 abbrev pub is_one : List Token → Bool
@@ -51,22 +52,22 @@ is_negation [] = false
 is_negation (t ∷ ts) = is_not t && is_unit ts
 
 -- the name that stands for X as a module
-abbrev pub as_module : List ℕ → List ℕ
+abbrev pub as_module : Bytes → Bytes
 as_module x = x ++ codes "_MODULE"
 
 -- IS_BUILTIN, IS_MODULE and IS_ENABLED of a name
-abbrev pub kconfig_call : List ℕ → List ℕ → Option Cond
+abbrev pub kconfig_call : Bytes → Bytes → Option Cond
 kconfig_call f x =
     if bytes_eq f (codes "IS_BUILTIN") then Some (cond.Plain x)
     else if bytes_eq f (codes "IS_MODULE") then Some (cond.Plain (as_module x))
     else if bytes_eq f (codes "IS_ENABLED") then Some (cond.AnyOf (cond.Plain x ∷ cond.Plain (as_module x) ∷ [])) else None
 
 -- `defined(X)`, or one of these
-abbrev pub name_call : List ℕ → List ℕ → Option Cond
+abbrev pub name_call : Bytes → Bytes → Option Cond
 name_call f x = if bytes_eq f (codes "defined") then Some (cond.Defined x) else kconfig_call f x
 
 -- a name and a name in parentheses
-abbrev pub called_by : List ℕ → Token → Option Cond
+abbrev pub called_by : Bytes → Token → Option Cond
 called_by f (Ident x) = name_call f x
 called_by f (Number x) = None
 called_by f (Quoted x) = None
@@ -84,7 +85,7 @@ abbrev pub call_of : Token → Token → Token → Token → Option Cond
 call_of t u v w = if not (is_open u) || not (is_close w) then None else called t v
 
 -- `defined X`
-abbrev pub defined_by : Token → List ℕ → Option Cond
+abbrev pub defined_by : Token → Bytes → Option Cond
 defined_by t x = if is_word (codes "defined") t then Some (cond.Defined x) else None
 
 -- the same, of a token as name

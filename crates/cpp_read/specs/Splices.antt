@@ -1,30 +1,32 @@
--- A text as the letters that are left when lines are spliced: each byte with its physical line, without a carriage
--- return directly before a newline, and without a backslash and the newline behind it.
+-- The bytes of a text that are left when lines are spliced: each with its physical line, without a carriage return
+-- directly before a newline, and without a backslash and the newline after it.
 -- Rule: ISO C, "Translation phases" 1 and 2; the carriage return is this project's.
 use Rattle.std.specs.Prelude.{ℕ, ◌+◌, ◌==◌, ◌&&◌, List, [], ◌∷◌, if◌then◌else◌}
-use Rattle.cpp_read.specs.declared.cursor.Letter.{Letter}
+use Rattle.ut_text.specs.Bytes.{Bytes, newline, carriage_return}
+use Rattle.cpp_read.specs.Characters.{backslash}
+use Rattle.cpp_read.specs.declared.cursor.PlacedByte.{PlacedByte}
 
--- the line behind a byte
+-- the line of the next byte
 abbrev pub line_after : ℕ → ℕ → ℕ
-line_after line byte = if byte == 10 then line + 1 else line
+line_after line byte = if byte == newline then line + 1 else line
 
 -- each byte with the number of its physical line
-abbrev pub numbered : ℕ → List ℕ → List Letter
+abbrev pub numbered : ℕ → Bytes → List PlacedByte
 numbered line [] = []
 numbered line (byte ∷ bytes) = record { byte = byte; line = line } ∷ numbered (line_after line byte) bytes
 
 -- a carriage return directly before a newline is dropped
-abbrev pub returnless : List Letter → List Letter
+abbrev pub returnless : List PlacedByte → List PlacedByte
 returnless [] = []
 returnless (a ∷ []) = a ∷ []
-returnless (a ∷ b ∷ s) = if a.byte == 13 && b.byte == 10 then returnless (b ∷ s) else a ∷ returnless (b ∷ s)
+returnless (a ∷ b ∷ s) = if a.byte == carriage_return && b.byte == newline then returnless (b ∷ s) else a ∷ returnless (b ∷ s)
 
--- a backslash and the newline behind it are dropped
-abbrev pub spliced : List Letter → List Letter
+-- a backslash and the newline after it are dropped
+abbrev pub spliced : List PlacedByte → List PlacedByte
 spliced [] = []
 spliced (a ∷ []) = a ∷ []
-spliced (a ∷ b ∷ s) = if a.byte == 92 && b.byte == 10 then spliced s else a ∷ spliced (b ∷ s)
+spliced (a ∷ b ∷ s) = if a.byte == backslash && b.byte == newline then spliced s else a ∷ spliced (b ∷ s)
 
--- the letters of a text whose first byte is on this line
-abbrev pub letters : ℕ → List ℕ → List Letter
-letters line bytes = spliced (returnless (numbered line bytes))
+-- the bytes that are left of a text whose first byte is on this line
+abbrev pub spliced_bytes : ℕ → Bytes → List PlacedByte
+spliced_bytes line bytes = spliced (returnless (numbered line bytes))

@@ -1,86 +1,88 @@
 -- The tokens of a line: names, numbers, quoted text, signs of two bytes, and every other byte alone.
 -- Rule: ISO C, "Lexical elements"; the list of signs is this project's.
-use Rattle.std.specs.Prelude.{ℕ, suc, zero, Bool, false, not, ◌==◌, ◌||◌, ◌&&◌, take, map, List, [], ◌∷◌, if◌then◌else◌}
+use Rattle.std.specs.Prelude.{ℕ, suc, zero, Bool, false, not, ◌==◌, ◌||◌, ◌&&◌, take, map, codes, List, [], ◌∷◌, if◌then◌else◌}
 use Rattle.std.specs.List.{prefix_len}
-use Rattle.ut_logic.specs.Escapes.{escaped}
+use Rattle.ut_text.specs.Bytes.{Bytes}
+use Rattle.cpp_read.specs.Characters.{quote, apostrophe, dot, equals, backslash, is_any_of}
+use Rattle.ut_text.specs.Escapes.{escaped}
 use Rattle.cpp_read.specs.declared.token.Token.{Token}
 use Rattle.cpp_read.specs.declared.token.Token.TheVariants.{Ident, Number, Quoted, Sign}
-use Rattle.cpp_read.specs.DirectiveLines.{is_blank}
-use Rattle.cpp_read.specs.Names.{is_letter, is_digit, is_name_byte}
+use Rattle.cpp_read.specs.DirectiveLines.{is_white}
+use Rattle.ut_text.specs.ByteClasses.{begins_names, is_digit, is_name_byte}
 
 -- whether a text begins with a digit
-abbrev pub begins_digit : List ℕ → Bool
+abbrev pub begins_digit : Bytes → Bool
 begins_digit [] = false
 begins_digit (b ∷ s) = is_digit b
 
--- e, E, p or P, behind which a sign belongs to the number
+-- an exponent's letter, after which `+` or `-` belongs to the number
 abbrev pub is_exponent : ℕ → Bool
-is_exponent b = b == 101 || b == 69 || b == 112 || b == 80
+is_exponent b = is_any_of (codes "eEpP") b
 
--- a byte of a number behind its first: a letter, digit, `_` or `.`, or `+` or `-` behind an exponent
+-- a byte of a number after its first: one of names, `.`, or `+` or `-` after an exponent's letter
 abbrev pub is_number_byte : Bool → ℕ → Bool
-is_number_byte signed b = is_name_byte b || b == 46 || (signed && (b == 43 || b == 45))
+is_number_byte signed b = is_name_byte b || b == dot || (signed && is_any_of (codes "+-") b)
 
 -- how many bytes go on with a number; whether a sign may be next
-abbrev pub number_len : Bool → List ℕ → ℕ
+abbrev pub number_len : Bool → Bytes → ℕ
 number_len signed [] = 0
 number_len signed (b ∷ s) = if is_number_byte signed b then suc (number_len (is_exponent b) s) else 0
 
--- how many bytes go on with quoted text: up to its mark, or to the line's end; behind a backslash (92) any byte
-abbrev pub quoted_len : ℕ → Bool → List ℕ → ℕ
+-- how many bytes go on with quoted text: up to its mark, or to the line's end; after a backslash any byte
+abbrev pub quoted_len : ℕ → Bool → Bytes → ℕ
 quoted_len mark escape [] = 0
-quoted_len mark escape (b ∷ s) = if not escape && b == mark then 1 else suc (quoted_len mark (not escape && b == 92) s)
+quoted_len mark escape (b ∷ s) = if not escape && b == mark then 1 else suc (quoted_len mark (not escape && b == backslash) s)
 
 -- `"` or `'`
 abbrev pub is_quote : ℕ → Bool
-is_quote b = b == 34 || b == 39
+is_quote b = b == quote || b == apostrophe
 
 -- `|`, `&`, `=`, `<` or `>`
 abbrev pub is_doubled : ℕ → Bool
-is_doubled a = a == 124 || a == 38 || a == 61 || a == 60 || a == 62
+is_doubled a = is_any_of (codes "|&=<>") a
 
 -- `!`, `<` or `>`
 abbrev pub is_compared : ℕ → Bool
-is_compared a = a == 33 || a == 60 || a == 62
+is_compared a = is_any_of (codes "!<>") a
 
 -- `||`, `&&`, `==`, `<<`, `>>`, and `!=`, `<=`, `>=`
 abbrev pub is_pair : ℕ → ℕ → Bool
-is_pair a b = (a == b && is_doubled a) || (b == 61 && is_compared a)
+is_pair a b = (a == b && is_doubled a) || (b == equals && is_compared a)
 
 -- how many bytes go with a sign's first: one or none
-abbrev pub sign_len : ℕ → List ℕ → ℕ
+abbrev pub sign_len : ℕ → Bytes → ℕ
 sign_len a [] = 0
 sign_len a (b ∷ s) = if is_pair a b then 1 else 0
 
 -- a number begins with a digit, or with a dot and a digit
-abbrev pub begins_number : ℕ → List ℕ → Bool
-begins_number b s = is_digit b || (b == 46 && begins_digit s)
+abbrev pub begins_number : ℕ → Bytes → Bool
+begins_number b s = is_digit b || (b == dot && begins_digit s)
 
 -- how many bytes of `s` go with `b` before them
-abbrev pub more_of : ℕ → List ℕ → ℕ
+abbrev pub more_of : ℕ → Bytes → ℕ
 more_of b s =
-    if is_letter b then prefix_len is_name_byte s
+    if begins_names b then prefix_len is_name_byte s
     else if begins_number b s then number_len false s
     else if is_quote b then quoted_len b false s else sign_len b s
 
--- the bytes of the tokens behind so many bytes
-abbrev pub pieces_behind : ℕ → List ℕ → List (List ℕ)
-pieces_behind k [] = []
-pieces_behind (suc k) (b ∷ s) = pieces_behind k s
-pieces_behind zero (b ∷ s) = if is_blank b then pieces_behind 0 s else (b ∷ take (more_of b s) s) ∷ pieces_behind (more_of b s) s
+-- the spellings of the tokens after so many bytes
+abbrev pub spellings_after : ℕ → Bytes → List Bytes
+spellings_after k [] = []
+spellings_after (suc k) (b ∷ s) = spellings_after k s
+spellings_after zero (b ∷ s) = if is_white b then spellings_after 0 s else (b ∷ take (more_of b s) s) ∷ spellings_after (more_of b s) s
 
--- the token with these bytes
-abbrev pub token_of : List ℕ → Token
+-- the token with this spelling
+abbrev pub token_of : Bytes → Token
 token_of [] = Sign []
 token_of (b ∷ s) =
-    if is_letter b then Ident (escaped (b ∷ s))
+    if begins_names b then Ident (escaped (b ∷ s))
     else if begins_number b s then Number (escaped (b ∷ s))
     else if is_quote b then Quoted (escaped (b ∷ s)) else Sign (escaped (b ∷ s))
 
--- the bytes of the tokens of a line, in order
-abbrev pub pieces_of : List ℕ → List (List ℕ)
-pieces_of text = pieces_behind 0 text
+-- the spellings of the tokens of a line, in order: the bytes of each
+abbrev pub spellings_of : Bytes → List Bytes
+spellings_of text = spellings_after 0 text
 
 -- the tokens of a line
-abbrev pub tokens_of : List ℕ → List Token
-tokens_of text = map token_of (pieces_of text)
+abbrev pub tokens_of : Bytes → List Token
+tokens_of text = map token_of (spellings_of text)

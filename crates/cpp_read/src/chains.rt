@@ -2,8 +2,8 @@ ghost use Rattle.std.specs.Prelude.{◌≡◌};
 ghost use Rattle.cpp_read.specs.Chains as spec;
 ghost use Rattle.cpp_read.specs.ChainSteps.{Steps, Ends};
 
-use cpp_directives::CppBad;
 use crate::words::Word;
+use cpp_directives::CppBad;
 use std::alloc::Global;
 use std::marker::Model;
 
@@ -30,19 +30,20 @@ pub struct OpenChains {
 
 impl Model for OpenChains {
     ghost use Rattle.std.specs.Prelude.{◌≤◌, reverse};
-    ghost use Rattle.cpp_read.specs.Chains.{Blocks};
+    ghost use Rattle.cpp_directives.specs.Limits.{most_blocks};
+    ghost use Rattle.cpp_read.specs.Chains.{ChainState};
 
-    ghost Value = { Blocks };
+    ghost Value = { ChainState };
 
     ghost view = { λ o. record { chains = reverse o.list.items; count = o.count } };
 
-    ghost invariant = { λ o. o.count ≤ 65535 };
+    ghost invariant = { λ o. o.count ≤ most_blocks };
 }
 
 impl OpenChains {
     /// No chain is open and no block was met.
     pub fn new(alloc: Global) -> OpenChains
-        ensures { result ≡ spec.no_blocks }
+        ensures { result ≡ spec.no_chains }
     {
         OpenChains {
             list: Vec::new(alloc),

@@ -1,20 +1,21 @@
 ghost use Rattle.std.specs.Prelude.{◌≡◌, ℕ, ◌≤◌, ◌<◌, ◌+◌, drop, false, length, MatchOption};
-ghost use Rattle.cpp_read.specs.Splices.{letters, line_after};
+ghost use Rattle.cpp_directives.specs.Limits.{most_bytes};
+ghost use Rattle.cpp_read.specs.Splices.{spliced_bytes, line_after};
 ghost use Rattle.cpp_read.specs.Cursors as spec;
 ghost use Rattle.cpp_read.specs.Cursors.{first, Takes, Stands, Passes};
-ghost use Rattle.cpp_read.specs.Dull.{Skips};
-ghost use Rattle.cpp_read.specs.Dull as dull;
+ghost use Rattle.cpp_read.specs.Stops.{Skips};
+ghost use Rattle.cpp_read.specs.Stops as stops;
 
 use std::marker::Model;
 
 /// A byte and the number of its physical line.
 #[derive(Clone, Copy)]
-pub struct Letter {
+pub struct PlacedByte {
     pub byte: u8,
     pub line: u32,
 }
 
-/// A place in a text that begins no splice. Its value is the letters that are still to be read.
+/// A place in a text that begins no splice. Its value is the bytes that are still to be read.
 #[derive(Drop)]
 pub struct Cursor<'a> {
     bytes: &'a [u8],
@@ -24,13 +25,14 @@ pub struct Cursor<'a> {
 
 impl<'a> Model for Cursor<'a> {
     ghost use Rattle.std.specs.Prelude.{List, drop, ◌≡◌, false};
-    ghost use Rattle.cpp_read.specs.declared.cursor.Letter.{Letter};
-    ghost use Rattle.cpp_read.specs.Splices.{letters};
+    ghost use Rattle.cpp_read.specs.declared.cursor.PlacedByte.{PlacedByte};
+    ghost use Rattle.cpp_directives.specs.Limits.{most_bytes};
+    ghost use Rattle.cpp_read.specs.Splices.{spliced_bytes};
     ghost use Rattle.cpp_read.specs.Cursors.{begins_splice, Stands};
 
-    ghost Value = { List Letter };
+    ghost Value = { List PlacedByte };
 
-    ghost view = { λ c. letters c.line (drop c.at c.bytes.now) };
+    ghost view = { λ c. spliced_bytes c.line (drop c.at c.bytes.now) };
 
     ghost invariant = { λ c. Stands c.bytes.now c.at c.line × (begins_splice (drop c.at c.bytes.now) ≡ false) };
 }
@@ -38,14 +40,14 @@ impl<'a> Model for Cursor<'a> {
 impl<'a> Cursor<'a> {
     /// The cursor before the first byte, on line 1.
     pub fn new(bytes: &'a [u8]) -> Cursor<'a>
-        requires { length bytes.now ≤ 16777216 }
-        ensures { result ≡ letters 1 bytes.now }
+        requires { length bytes.now ≤ most_bytes }
+        ensures { result ≡ spliced_bytes 1 bytes.now }
     {
         let (at, line) = past_splices(bytes, 0, 1);
         Cursor { bytes, at, line }
     }
 
-    /// The byte of the next letter.
+    /// The next byte.
     pub fn peek(&self) -> Option<u8>
         ensures { result ≡ first self.now }
     {
@@ -56,39 +58,39 @@ impl<'a> Cursor<'a> {
         }
     }
 
-    /// Takes the next letter.
-    pub fn next(&mut self) -> Option<Letter>
+    /// Takes the next byte.
+    pub fn next(&mut self) -> Option<PlacedByte>
         ensures { Takes self.old result self.new }
     {
         if self.at < self.bytes.len() {
             let byte = self.bytes[self.at];
-            let letter = Letter {
+            let placed = PlacedByte {
                 byte,
                 line: self.line,
             };
-            let (at, line) = past_splices(self.bytes, self.at + 1, line_behind(self.line, byte));
+            let (at, line) = past_splices(self.bytes, self.at + 1, next_line(self.line, byte));
             self.at = at;
             self.line = line;
-            Some(letter)
+            Some(placed)
         } else {
             None
         }
     }
 
     /// Passes bytes that change no mode and end no line.
-    pub fn skip_dull(&mut self)
+    pub fn skip_to_stop(&mut self)
         ensures { Skips self.old self.new }
     {
-        let at = past_dull(self.bytes, self.at);
+        let at = next_stop(self.bytes, self.at);
         let (at, line) = past_splices(self.bytes, at, self.line);
         self.at = at;
         self.line = line;
     }
 }
 
-/// Whether a byte may begin a splice: a backslash or a carriage return.
+/// Whether a byte may begin a splice, change the mode or end a line.
 fn is_stop(byte: u8) -> bool
-    ensures { result ≡ dull.is_stop byte }
+    ensures { result ≡ stops.is_stop byte }
 {
     byte == b'\\'
         || byte == b'\n'
@@ -99,10 +101,10 @@ fn is_stop(byte: u8) -> bool
         || byte == b'\''
 }
 
-/// The first place from `at` on that is no dull byte's.
-fn past_dull(bytes: &[u8], mut at: usize) -> usize
+/// The first place from `at` on where such a byte stands, or the end.
+fn next_stop(bytes: &[u8], mut at: usize) -> usize
     requires { at ≤ length bytes.now }
-    ensures skips { (line : ℕ) → Skips (letters line (drop at bytes.now)) (letters line (drop result bytes.now)) }
+    ensures skips { (line : ℕ) → Skips (spliced_bytes line (drop at bytes.now)) (spliced_bytes line (drop result bytes.now)) }
     ensures from { at ≤ result }
     ensures within { result ≤ length bytes.now }
 {
@@ -112,8 +114,8 @@ fn past_dull(bytes: &[u8], mut at: usize) -> usize
     at
 }
 
-/// The line behind a byte.
-fn line_behind(line: u32, byte: u8) -> u32
+/// The line of the byte after this one.
+fn next_line(line: u32, byte: u8) -> u32
     requires { line < 4294967295 }
     ensures { result ≡ line_after line byte }
 {
@@ -153,7 +155,7 @@ fn at_return_join(bytes: &[u8], at: usize) -> bool
     }
 }
 
-/// The place and line behind a splice, or behind the carriage return of a line end.
+/// The place and line after a splice, or after the carriage return of a line end.
 fn past_one(bytes: &[u8], at: usize, line: u32) -> Option<(usize, u32)>
     requires { Stands bytes.now at line }
     ensures { MatchOption result (spec.begins_splice (drop at bytes.now) ≡ false) (λ r. Passes bytes.now at line r.0 r.1) }
@@ -170,10 +172,10 @@ fn past_one(bytes: &[u8], at: usize, line: u32) -> Option<(usize, u32)>
     None
 }
 
-/// The place and line behind all splices that stand there.
+/// The place and line after all splices that stand there.
 fn past_splices(bytes: &[u8], mut at: usize, mut line: u32) -> (usize, u32)
     requires { Stands bytes.now at line }
-    ensures same { letters result.1 (drop result.0 bytes.now) ≡ letters line (drop at bytes.now) }
+    ensures same { spliced_bytes result.1 (drop result.0 bytes.now) ≡ spliced_bytes line (drop at bytes.now) }
     ensures stands { Stands bytes.now result.0 result.1 }
     ensures clear { spec.begins_splice (drop result.0 bytes.now) ≡ false }
 {

@@ -44,7 +44,7 @@ fn joins(joint: Joint, token: &Token) -> bool
     }
 }
 
-/// The depth behind a token.
+/// The depth after a token.
 fn deeper(depth: usize, token: &Token) -> usize
     requires { depth < 18446744073709551615 }
     ensures { result ≡ spec.deeper depth token.now }

@@ -63,7 +63,7 @@ fn is_ending(byte: u8) -> bool
     byte == b'u' || byte == b'U' || byte == b'l' || byte == b'L'
 }
 
-/// Whether each byte is such a letter.
+/// Whether each byte may stand in an ending.
 fn are_endings(text: &[u8]) -> bool
     ensures { result ≡ list_all spec.is_ending text.now }
 {
@@ -155,7 +155,7 @@ pub fn read_whole(text: &[u8]) -> Whole
     ensures { result ≡ spec.whole text.now }
 {
     if begins_hex(text) {
-        whole_to(Base::Hexadecimal, behind_two(text))
+        whole_to(Base::Hexadecimal, after_two(text))
     } else if begins_zero(text) {
         whole_to(Base::Octal, text)
     } else {
@@ -163,8 +163,8 @@ pub fn read_whole(text: &[u8]) -> Whole
     }
 }
 
-/// The text behind its first two bytes.
-fn behind_two(text: &[u8]) -> &[u8]
+/// The text after its first two bytes.
+fn after_two(text: &[u8]) -> &[u8]
     requires { spec.begins_hex text.now ≡ true }
     ensures { result.now ≡ drop 2 text.now }
 {

@@ -4,13 +4,13 @@ ghost use Rattle.cpp_directives.specs.declared.condition.Cond.TheVariants as con
 ghost use Rattle.cpp_read.specs.Signs as signs;
 ghost use Rattle.cpp_read.specs.Operands as spec;
 
-use cpp_directives::Cond;
 use crate::depth::{is_close, is_group, is_not, is_open};
 use crate::number::{Whole, read_whole};
 use crate::token::Token;
+use cpp_directives::Cond;
 use sqlite_items::Items;
 use std::alloc::{AllocError, Global};
-use ut_logic::Text;
+use ut_text::Text;
 
 /// The texts of tokens, joined by one space.
 fn piece_text(alloc: Global, tokens: &[Token]) -> Result<Text, AllocError>

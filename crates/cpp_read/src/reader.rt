@@ -7,13 +7,12 @@ ghost use Rattle.cpp_read.specs.Conditions.{Reader, Reads, single, negated, each
 ghost use Rattle.cpp_read.specs.Condition.{ruled_condition, condition};
 ghost use Rattle.cpp_read.specs.Refusals.{Answers, AnswersList};
 
-use cpp_directives::CppBad;
-use cpp_directives::Cond;
 use crate::depth::{Joint, before, is_balanced, is_group};
 use crate::number::{Whole, read_whole};
 use crate::operand::{is_negation, leaf, piece};
 use crate::signs_over::signs_fit;
 use crate::token::Token;
+use cpp_directives::{Cond, CppBad};
 use sqlite_items::{Boxed, Items};
 use std::alloc::{AllocError, Global};
 
@@ -72,13 +71,13 @@ fn read_parts(alloc: Global, joint: Joint, tokens: &[Token], line: u32) -> Resul
         if count == rest.len() {
             break 'parts;
         }
-        rest = behind(rest, count);
+        rest = after(rest, count);
     }
     Ok(list)
 }
 
-/// The tokens behind that place.
-fn behind(tokens: &[Token], at: usize) -> &[Token]
+/// The tokens after that place.
+fn after(tokens: &[Token], at: usize) -> &[Token]
     requires { at < length tokens.now }
     ensures value { result.now ≡ drop (suc at) tokens.now }
     ensures len { length result.now < length tokens.now }
@@ -102,7 +101,7 @@ fn read_single(alloc: Global, tokens: &[Token], line: u32) -> Result<Cond, CppBa
     ensures { (f : Reader) → Reads line f → Answers result (single f tokens.now) }
 {
     if is_negation(tokens) {
-        return read_negated(alloc, behind(tokens, 0), line);
+        return read_negated(alloc, after(tokens, 0), line);
     }
     if is_group(tokens) {
         return read(alloc, inside(tokens), line);

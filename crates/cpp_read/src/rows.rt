@@ -29,10 +29,10 @@ fn write_list(out: &mut String, mark: &str, list: &[Cond]) -> Result<(), AllocEr
     out.push(')')
 }
 
-fn write_in(out: &mut String, before: &str, text: &str, behind: &str) -> Result<(), AllocError> {
+fn write_in(out: &mut String, before: &str, text: &str, after: &str) -> Result<(), AllocError> {
     out.push_str(before)?;
     out.push_str(text)?;
-    out.push_str(behind)
+    out.push_str(after)
 }
 
 fn mark_of(gives: Gives) -> &'static str {
@@ -86,7 +86,7 @@ fn write_all(alloc: Global, list: &[Directive]) -> Result<String, AllocError> {
 }
 
 /// The directives of a text, each as `LINE:WHAT;`, or the refusal's kind and line.
-fn shown(alloc: Global, text: &[u8]) -> Result<String, Fail> {
+fn outcome(alloc: Global, text: &[u8]) -> Result<String, Fail> {
     if text.len() > 16_777_216 {
         return Err(Fail::from("a text that is too long"));
     }
@@ -154,7 +154,7 @@ fn lines_and_comments(rt: HostRuntime) -> Result<(), Fail> {
         ("#include <a>\n#pragma x\n#\n# 7 \"a\"\n", ""),
     ];
     for (text, want) in rows {
-        let got = shown(alloc, text.as_bytes())?;
+        let got = outcome(alloc, text.as_bytes())?;
         assert!(rt; got.as_str() == want, "{got}");
     }
     Ok(())
@@ -163,10 +163,10 @@ fn lines_and_comments(rt: HostRuntime) -> Result<(), Fail> {
 /// The condition of a text, or the refusal of its line.
 fn read(alloc: Global, text: &str) -> Result<String, Fail> {
     let source = format!(in alloc; "#if {text}\n#endif\n")?;
-    shown(alloc, source.as_bytes())
+    outcome(alloc, source.as_bytes())
 }
 
-/// What is shown where the condition is this one.
+/// The outcome where the condition is this one.
 fn alone(alloc: Global, cond: &str) -> Result<String, Fail> {
     Ok(format!(in alloc; "1:if {cond};2:endif;")?)
 }
@@ -270,7 +270,7 @@ fn limits(rt: HostRuntime) -> Result<(), Fail> {
         (repeated(alloc, "", "#if 1\n", 251, "")?, "depth 251"),
     ];
     for (text, want) in &rows {
-        let got = shown(alloc, text.as_bytes())?;
+        let got = outcome(alloc, text.as_bytes())?;
         assert!(rt; got.as_str() == *want, "{got} {want}");
     }
     Ok(())

@@ -1,4 +1,5 @@
 ghost use Rattle.std.specs.Prelude.{◌≡◌, ℕ, ◌+◌, ◌∷◌, ◌≤◌, nat_le, OnOk, IfOk};
+ghost use Rattle.cpp_directives.specs.Limits.{most_signs};
 ghost use Rattle.cpp_read.specs.SignsOver as spec;
 ghost use Rattle.cpp_read.specs.OverSteps.{Steps};
 
@@ -29,7 +30,7 @@ impl Model for Over {
 
 /// Whether so many signs are allowed over a token.
 fn sum_fits(signs: u32, row: u32) -> bool
-    ensures { result ≡ nat_le (signs + row) 200 }
+    ensures { result ≡ nat_le (signs + row) most_signs }
 {
     u64::from(signs) + u64::from(row) <= MOST_SIGNS
 }
@@ -67,7 +68,7 @@ impl Over {
         };
     }
 
-    /// Goes behind a token that closes nothing.
+    /// Goes after a token that closes nothing.
     fn pass(&mut self, token: &Token) -> Result<(), AllocError>
         requires { self.old.signs + self.old.row ≤ 200 }
         ensures { OnOk result (self.new ≡ spec.inner_after self.old token.now) }
@@ -84,7 +85,7 @@ impl Over {
         Ok(())
     }
 
-    /// Whether a token has few enough signs over it; goes behind it then.
+    /// Whether a token has few enough signs over it; goes after it then.
     fn step(&mut self, token: &Token) -> Result<bool, AllocError>
         ensures { IfOk result (λ fits. Steps self.old token.now self.new fits) }
     {

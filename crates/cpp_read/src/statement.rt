@@ -5,16 +5,14 @@ ghost use Rattle.cpp_read.specs.Condition.{condition};
 ghost use Rattle.cpp_read.specs.DirectiveSteps.{Says};
 ghost use Rattle.cpp_read.specs.Refusals.{Answers};
 
-use cpp_directives::CppBad;
-use cpp_directives::Cond;
-use cpp_directives::{Gives, What};
 use crate::number::{Whole, read_whole};
 use crate::reader::read_condition;
 use crate::tokens::{next_token, tokens_of};
-use crate::words::{Word, begins_name, name_text, split_name, unblanked};
+use crate::words::{Word, after_white, begins_name, split_name};
+use cpp_directives::{Cond, CppBad, Gives, What};
 use sqlite_items::Boxed;
 use std::alloc::Global;
-use ut_logic::Text;
+use ut_text::Text;
 
 /// The name that a text begins with.
 fn named(alloc: Global, text: &[u8], line: u32) -> Result<Text, CppBad>
@@ -24,7 +22,7 @@ fn named(alloc: Global, text: &[u8], line: u32) -> Result<Text, CppBad>
         return Err(CppBad::NoName { line });
     }
     let (name, _) = split_name(text);
-    Ok(name_text(alloc, name)?)
+    Ok(Text::of_name(alloc, name)?)
 }
 
 /// Whether a text begins with `(`.
@@ -50,7 +48,7 @@ fn whole_gives(whole: Whole) -> Gives
 
 /// What a body gives: its truth where it is one whole number.
 fn body_gives(text: &[u8]) -> Gives
-    ensures { result ≡ spec.body_gives (token_specs.pieces_of text.now) }
+    ensures { result ≡ spec.body_gives (token_specs.spellings_of text.now) }
 {
     let Some((body, rest)) = next_token(text) else {
         return Gives::Free;
@@ -61,7 +59,7 @@ fn body_gives(text: &[u8]) -> Gives
     }
 }
 
-/// What stands behind a macro's name gives.
+/// What stands after a macro's name gives.
 fn gives_of(text: &[u8]) -> Gives
     ensures { result ≡ spec.gives_of text.now }
 {
@@ -100,7 +98,7 @@ fn definition(alloc: Global, text: &[u8], line: u32) -> Result<What, CppBad>
     })
 }
 
-/// What a directive's word and the text behind it say.
+/// What a directive's word and the text after it say.
 pub fn what_of(alloc: Global, word: Word, text: &[u8], line: u32) -> Result<Option<What>, CppBad>
     ensures { Says result (spec.what_of word text.now line) }
 {
@@ -114,21 +112,21 @@ pub fn what_of(alloc: Global, word: Word, text: &[u8], line: u32) -> Result<Opti
             Ok(Some(What::Elif(cond)))
         }
         Word::Ifdef => {
-            let name = named(alloc, unblanked(text), line)?;
+            let name = named(alloc, after_white(text), line)?;
             Ok(Some(What::If(Cond::Defined(name))))
         }
         Word::Ifndef => {
-            let cond = undefined(alloc, unblanked(text), line)?;
+            let cond = undefined(alloc, after_white(text), line)?;
             Ok(Some(What::If(cond)))
         }
         Word::Else => Ok(Some(What::Else)),
         Word::Endif => Ok(Some(What::Endif)),
         Word::Define => {
-            let what = definition(alloc, unblanked(text), line)?;
+            let what = definition(alloc, after_white(text), line)?;
             Ok(Some(what))
         }
         Word::Undef => {
-            let name = named(alloc, unblanked(text), line)?;
+            let name = named(alloc, after_white(text), line)?;
             Ok(Some(What::Undef { name }))
         }
         Word::Elifdef | Word::Other => Ok(None),

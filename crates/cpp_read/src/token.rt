@@ -1,7 +1,7 @@
 ghost use Rattle.std.specs.Prelude.{◌≡◌};
 ghost use Rattle.cpp_read.specs.Signs as spec;
 
-use ut_logic::Text;
+use ut_text::Text;
 
 /// A token of a line.
 #[derive(Drop)]

@@ -1,15 +1,14 @@
 ghost use Rattle.std.specs.Prelude.{◌≡◌, ◌==◌, ◌&&◌, not, ◌<◌, ◌≤◌, ◌∷◌, [], true, false, IfOk, IfSome, MatchOption, length};
-ghost use Rattle.ut_logic.specs.Escapes.{escaped};
-ghost use Rattle.cpp_read.specs.Names as names;
+ghost use Rattle.ut_text.specs.Escapes.{escaped};
+ghost use Rattle.cpp_read.specs.Characters.{backslash};
 ghost use Rattle.cpp_read.specs.Tokens as spec;
 ghost use Rattle.cpp_read.specs.TokenSteps as steps;
 
-use crate::first_lines::is_letter;
-use crate::plain::is_blank;
 use crate::token::Token;
-use crate::words::{name_bytes, unblanked};
+use crate::uncommented::is_white;
+use crate::words::after_white;
 use std::alloc::{AllocError, Global};
-use ut_logic::Text;
+use ut_text::{Text, begins_names, is_digit, is_name_byte, name_len};
 
 /// Whether a text begins with a digit.
 fn begins_digit(text: &[u8]) -> bool
@@ -21,18 +20,11 @@ fn begins_digit(text: &[u8]) -> bool
     }
 }
 
-/// A decimal digit.
-fn is_digit(byte: u8) -> bool
-    ensures { result ≡ names.is_digit byte }
-{
-    byte.is_ascii_digit()
-}
-
 /// Whether a number begins there: a digit, or a dot and a digit.
-fn begins_number(first: u8, behind: &[u8]) -> bool
-    ensures { result ≡ spec.begins_number first behind.now }
+fn begins_number(first: u8, after: &[u8]) -> bool
+    ensures { result ≡ spec.begins_number first after.now }
 {
-    is_digit(first) || (first == b'.' && begins_digit(behind))
+    is_digit(first) || (first == b'.' && begins_digit(after))
 }
 
 /// `e`, `E`, `p` or `P`.
@@ -46,9 +38,7 @@ fn is_exponent(byte: u8) -> bool
 fn is_number_byte(signed: bool, byte: u8) -> bool
     ensures { result ≡ spec.is_number_byte signed byte }
 {
-    crate::first_lines::is_name_byte(byte)
-        || byte == b'.'
-        || (signed && (byte == b'+' || byte == b'-'))
+    is_name_byte(byte) || byte == b'.' || (signed && (byte == b'+' || byte == b'-'))
 }
 
 /// How many bytes go on with a number.
@@ -75,9 +65,9 @@ fn closes(mark: u8, escape: bool, byte: u8) -> bool
     !escape && byte == mark
 }
 
-/// Whether the byte behind is taken as it is.
+/// Whether the next byte is taken as it is.
 fn escapes(escape: bool, byte: u8) -> bool
-    ensures { result ≡ (not escape && byte == 92) }
+    ensures { result ≡ (not escape && byte == backslash) }
 {
     !escape && byte == b'\\'
 }
@@ -113,7 +103,7 @@ fn is_doubled(byte: u8) -> bool
     byte == b'|' || byte == b'&' || byte == b'=' || byte == b'<' || byte == b'>'
 }
 
-/// A byte that makes a sign with `=` behind it.
+/// A byte that makes a sign with an `=` after it.
 fn is_compared(byte: u8) -> bool
     ensures { result ≡ spec.is_compared byte }
 {
@@ -128,29 +118,29 @@ fn is_pair(first: u8, second: u8) -> bool
 }
 
 /// How many bytes go with a sign's first: one or none.
-fn sign_len(first: u8, behind: &[u8]) -> usize
-    ensures value { result ≡ spec.sign_len first behind.now }
-    ensures within { result ≤ length behind.now }
+fn sign_len(first: u8, after: &[u8]) -> usize
+    ensures value { result ≡ spec.sign_len first after.now }
+    ensures within { result ≤ length after.now }
 {
-    match behind {
+    match after {
         [second, ..] => if is_pair(first, *second) { 1 } else { 0 },
         [] => 0,
     }
 }
 
 /// How many bytes go with a token's first.
-fn more_of(first: u8, behind: &[u8]) -> usize
-    ensures value { result ≡ spec.more_of first behind.now }
-    ensures within { result ≤ length behind.now }
+fn more_of(first: u8, after: &[u8]) -> usize
+    ensures value { result ≡ spec.more_of first after.now }
+    ensures within { result ≤ length after.now }
 {
-    if is_letter(first) {
-        name_bytes(behind)
-    } else if begins_number(first, behind) {
-        number_len(behind)
+    if begins_names(first) {
+        name_len(after)
+    } else if begins_number(first, after) {
+        number_len(after)
     } else if is_quote(first) {
-        quoted_len(first, behind)
+        quoted_len(first, after)
     } else {
-        sign_len(first, behind)
+        sign_len(first, after)
     }
 }
 
@@ -160,7 +150,7 @@ fn token_len(text: &[u8]) -> usize
     ensures within { result ≤ length text.now }
 {
     match text {
-        [first, behind @ ..] => 1 + more_of(*first, behind),
+        [first, after @ ..] => 1 + more_of(*first, after),
         [] => 0,
     }
 }
@@ -170,21 +160,21 @@ fn begins_token(text: &[u8]) -> bool
     ensures { result ≡ steps.begins_token text.now }
 {
     match text {
-        [first, ..] => !is_blank(*first),
+        [first, ..] => !is_white(*first),
         [] => false,
     }
 }
 
-/// The token at the front, and what stands behind it.
+/// The spelling of the token at the front, and what stands after it.
 fn split_token(text: &[u8]) -> (&[u8], &[u8])
     requires { steps.begins_token text.now ≡ true }
-    ensures tokens { spec.pieces_of text.now ≡ result.0.now ∷ spec.pieces_of result.1.now }
+    ensures tokens { spec.spellings_of text.now ≡ result.0.now ∷ spec.spellings_of result.1.now }
     ensures shorter { length result.1.now < length text.now }
 {
     text.split_at(token_len(text))
 }
 
-/// The token with these bytes.
+/// The token with this spelling.
 fn token_of(alloc: Global, bytes: &[u8]) -> Result<Token, AllocError>
     ensures { IfOk result (λ t. t ≡ spec.token_of bytes.now) }
 {
@@ -192,15 +182,15 @@ fn token_of(alloc: Global, bytes: &[u8]) -> Result<Token, AllocError>
     Ok(token_with(bytes, text))
 }
 
-/// The token with these bytes, whose text is made.
+/// The token with this spelling, whose text is made.
 fn token_with(bytes: &[u8], text: Text) -> Token
     requires { text ≡ escaped bytes.now }
     ensures { result ≡ spec.token_of bytes.now }
 {
     match bytes {
-        [first, behind @ ..] => if is_letter(*first) {
+        [first, after @ ..] => if begins_names(*first) {
             Token::Ident(text)
-        } else if begins_number(*first, behind) {
+        } else if begins_number(*first, after) {
             Token::Number(text)
         } else if is_quote(*first) {
             Token::Quoted(text)
@@ -211,12 +201,12 @@ fn token_with(bytes: &[u8], text: Text) -> Token
     }
 }
 
-/// The first token, and what stands behind it.
+/// The spelling of the first token, and what stands after it.
 pub fn next_token(text: &[u8]) -> Option<(&[u8], &[u8])>
-    ensures value { MatchOption result (spec.pieces_of text.now ≡ []) (λ r. spec.pieces_of text.now ≡ r.0.now ∷ spec.pieces_of r.1.now) }
+    ensures value { MatchOption result (spec.spellings_of text.now ≡ []) (λ r. spec.spellings_of text.now ≡ r.0.now ∷ spec.spellings_of r.1.now) }
     ensures shorter { IfSome result (λ r. length r.1.now < length text.now) }
 {
-    let rest = unblanked(text);
+    let rest = after_white(text);
     if !begins_token(rest) {
         return None;
     }

@@ -1,13 +1,11 @@
-ghost use Rattle.std.specs.Prelude.{◌≡◌, ◌≤◌, true, length, IfOk};
+ghost use Rattle.std.specs.Prelude.{◌≡◌, ◌≤◌, true, length};
 ghost use Rattle.std.specs.List.{list_all, prefix_len};
-ghost use Rattle.cpp_read.specs.Names as names;
+ghost use Rattle.ut_text.specs.ByteClasses as classes;
 ghost use Rattle.cpp_read.specs.Words as spec;
 ghost use Rattle.cpp_read.specs.DirectiveLines as lines;
 
-use crate::first_lines::{is_letter, is_name_byte};
-use crate::plain::is_blank;
-use std::alloc::{AllocError, Global};
-use ut_logic::Text;
+use crate::uncommented::is_white;
+use ut_text::{begins_names, name_len};
 
 /// The word that names a directive.
 #[derive(Clone, Copy)]
@@ -72,14 +70,14 @@ fn macro_word(word: &[u8]) -> Word
     }
 }
 
-/// How many blanks stand at the front.
-fn blanks(text: &[u8]) -> usize
-    ensures value { result ≡ prefix_len lines.is_blank text.now }
+/// How many bytes of white space stand at the front.
+fn white_len(text: &[u8]) -> usize
+    ensures value { result ≡ prefix_len lines.is_white text.now }
     ensures within { result ≤ length text.now }
 {
     let mut count = 0;
     for byte in text {
-        if !is_blank(*byte) {
+        if !is_white(*byte) {
             return count;
         }
         count += 1;
@@ -87,43 +85,20 @@ fn blanks(text: &[u8]) -> usize
     count
 }
 
-/// How many bytes of a name stand at the front.
-pub fn name_bytes(text: &[u8]) -> usize
-    ensures value { result ≡ prefix_len names.is_name_byte text.now }
-    ensures within { result ≤ length text.now }
+/// The text after its leading white space.
+pub fn after_white(text: &[u8]) -> &[u8]
+    ensures { result.now ≡ spec.after_white text.now }
 {
-    let mut count = 0;
-    for byte in text {
-        if !is_name_byte(*byte) {
-            return count;
-        }
-        count += 1;
-    }
-    count
+    &text[white_len(text)..]
 }
 
-/// The text behind its leading blanks.
-pub fn unblanked(text: &[u8]) -> &[u8]
-    ensures { result.now ≡ spec.unblanked text.now }
-{
-    &text[blanks(text)..]
-}
-
-/// The bytes of a name at the front, which may be none, and what stands behind them.
+/// The bytes of a name at the front, which may be none, and what stands after them.
 pub fn split_name(text: &[u8]) -> (&[u8], &[u8])
     ensures name { result.0.now ≡ spec.name_at text.now }
-    ensures behind { result.1.now ≡ spec.behind_name text.now }
-    ensures bytes { list_all names.is_name_byte result.0.now ≡ true }
+    ensures after { result.1.now ≡ spec.after_name text.now }
+    ensures bytes { list_all classes.is_name_byte result.0.now ≡ true }
 {
-    text.split_at(name_bytes(text))
-}
-
-/// The text of a name.
-pub fn name_text(alloc: Global, name: &[u8]) -> Result<Text, AllocError>
-    requires { list_all names.is_name_byte name.now ≡ true }
-    ensures { IfOk result (λ t. t ≡ name.now) }
-{
-    Text::of_bytes(alloc, name)
+    text.split_at(name_len(text))
 }
 
 /// Whether a text begins with a name.
@@ -131,7 +106,7 @@ pub fn begins_name(text: &[u8]) -> bool
     ensures { result ≡ spec.begins_name text.now }
 {
     match text {
-        [first, ..] => is_letter(*first),
+        [first, ..] => begins_names(*first),
         [] => false,
     }
 }

@@ -22,14 +22,14 @@ pub read_parts-parts-preserved : goal.read_parts-parts-preserved
 read_parts-parts-preserved t c =
     let inside : before_at c.args.joint 0 c.parts.rest.now < length c.parts.rest.now = omega (arith, c.before-count.ensures.value, c.before-count.ensures.within) in
     record {
-      left = λ f r. next_part f c.parts.list.items c.push.new.self.items c.args.joint c.parts.rest.now c.behind-rest.result.now c.in_ok-part.part (each f (parts c.args.joint c.args.tokens.now))
+      left = λ f r. next_part f c.parts.list.items c.push.new.self.items c.args.joint c.parts.rest.now c.after-rest.result.now c.in_ok-part.part (each f (parts c.args.joint c.args.tokens.now))
           inside
           (subst (λ n. f (take n c.parts.rest.now) ≡ Ok c.in_ok-part.part) c.before-count.ensures.value (c.in_ok-part.ensures f r))
           c.in_ok-push.ensures.items
-          (c.behind-rest.ensures.value ∙ ap (λ n. drop (suc n) c.parts.rest.now) c.before-count.ensures.value)
+          (c.after-rest.ensures.value ∙ ap (λ n. drop (suc n) c.parts.rest.now) c.before-count.ensures.value)
           (c.parts.invariant.left f r);
-      short = omega (arith, before_within c.args.joint 0 c.behind-rest.result.now, c.behind-rest.ensures.len, c.parts.invariant.within);
-      within = omega (arith, c.behind-rest.ensures.len, c.parts.invariant.within);
+      short = omega (arith, before_within c.args.joint 0 c.after-rest.result.now, c.after-rest.ensures.len, c.parts.invariant.within);
+      within = omega (arith, c.after-rest.ensures.len, c.parts.invariant.within);
     }
 
 pub read_parts-returns : goal.read_parts-returns

@@ -2,7 +2,7 @@
 use Rattle.std.proofs.Common.{◌≡◌, ◌+◌, ◌*◌, ◌<◌, ◌≤◌, length}
 use Rattle.cpp_read.specs.Depth.{parts, before_at}
 use Rattle.cpp_read.specs.Conditions.{Reader, Reads, each}
-use Rattle.cpp_read.specs.ConditionSteps.{conds_behind}
+use Rattle.cpp_read.specs.ConditionSteps.{conds_after}
 use Rattle.cpp_read.proofs.reader.+read.Given as goal
 
 abbrev pub decreases-read : goal.decreases-read
@@ -19,7 +19,7 @@ decreases-read_negated l = 3 * length l.tokens.now + 3
 
 abbrev pub invariant-read_parts-parts : goal.invariant-read_parts-parts
 invariant-read_parts-parts l = record {
-  left : (f : Reader) → Reads l.line f → conds_behind l.list.items (each f (parts l.joint l.rest)) ≡ each f (parts l.joint l.tokens);
+  left : (f : Reader) → Reads l.line f → conds_after l.list.items (each f (parts l.joint l.rest)) ≡ each f (parts l.joint l.tokens);
   short : before_at l.joint 0 l.rest < length l.tokens;
   within : length l.rest ≤ length l.tokens;
 }
