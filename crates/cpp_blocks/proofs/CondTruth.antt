@@ -6,7 +6,7 @@ use Rattle.std.proofs.lemmas.List.Folds.{list_all-append}
 use Rattle.ut_logic.specs.declared.item.Item.{Item}
 use Rattle.ut_logic.specs.declared.item.Item.TheVariants as item
 use Rattle.ut_logic.specs.declared.formula.Formula.{Formula}
-use Rattle.ut_logic.specs.Text.{text_eq}
+use Rattle.ut_text.specs.Text.{text_eq}
 use Rattle.ut_logic.specs.Truth.{truth, truths, all_true, any_true}
 use Rattle.ut_logic.specs.Fold.{all_of, any_of}
 use Rattle.ut_logic.proofs.FoldLaws.{truth-Yes, truth-No, truth-Is, truth-not_of, truth-all_of, truth-any_of}

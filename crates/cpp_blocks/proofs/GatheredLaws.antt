@@ -13,7 +13,7 @@ use Rattle.cpp_blocks.specs.Gathered.{Gathered, put_at, put_by, put_all, lists_f
 use Rattle.cpp_blocks.specs.declared.turns.Turns.{Turns}
 use Rattle.cpp_blocks.specs.Counted.{IsCounted}
 use Rattle.cpp_blocks.specs.Formulas.{Source, turns_behind}
-use Rattle.cpp_blocks.specs.KeptTurns.{kept_turns}
+use Rattle.cpp_blocks.specs.Places.{kept_turns}
 use Rattle.cpp_blocks.specs.Steps.{Standing, fact_at, behind, facts_along}
 use Rattle.cpp_blocks.specs.Turns.{touched_at}
 use Rattle.cpp_blocks.proofs.TurnLaws.{pieces_counted}

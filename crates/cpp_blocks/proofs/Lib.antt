@@ -1,4 +1,3 @@
-mod WordBytes
 mod TurnLaws
 mod FirstsLaws
 mod NestedLaws

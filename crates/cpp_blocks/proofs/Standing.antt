@@ -6,7 +6,7 @@ use Rattle.std.proofs.lemmas.Bool.{cases_lt, false≢true}
 use Rattle.std.proofs.lemmas.List.{append-nil}
 use Rattle.ut_logic.specs.declared.item.Item.{Item}
 use Rattle.ut_logic.specs.declared.item.Item.TheVariants as item
-use Rattle.ut_logic.specs.Text.{text_eq, text_equiv, text_eq-exact}
+use Rattle.ut_text.specs.Text.{text_eq, text_equiv, text_eq-exact}
 use Rattle.ut_logic.specs.Truth.{any_true}
 use Rattle.cpp_directives.specs.declared.directive.Directive.{Directive}
 use Rattle.cpp_directives.specs.declared.directive.What.{What}

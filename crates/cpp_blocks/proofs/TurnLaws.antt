@@ -6,7 +6,7 @@ use Rattle.std.proofs.lemmas.Bool.{false≢true}
 use Rattle.std.proofs.lemmas.Grind.{common_steps}
 use Rattle.std.proofs.lemmas.List.Folds.{list_any-append}
 use Rattle.std.proofs.lemmas.List.Sums.{sum_by-cons, sum_by_push}
-use Rattle.ut_logic.specs.Text.{text_eq, text_equiv}
+use Rattle.ut_text.specs.Text.{text_eq, text_equiv}
 use Rattle.cpp_blocks.specs.declared.turns.Turns.{Turns}
 use Rattle.cpp_blocks.specs.Counted.{turn_in, IsCounted, piece_turn}
 use Rattle.cpp_blocks.specs.Mentions.{with_new, firsts}

@@ -2,8 +2,8 @@
 use Rattle.std.specs.Prelude.{◌≡◌, ℕ, true, List, [], unwrap_or}
 use Rattle.std.specs.List.{sum_by, list_all}
 use Rattle.indexmap.specs.IndexMap.{get}
-use Rattle.ut_logic.specs.Text.{text_eq}
-use Rattle.cpp_read.specs.Names.{is_name_byte}
+use Rattle.ut_text.specs.Text.{text_eq}
+use Rattle.ut_text.specs.ByteClasses.{is_name_byte}
 use Rattle.cpp_blocks.specs.declared.turns.Turns.{Turns}
 use Rattle.cpp_blocks.specs.declared.piece_names.Scan.{Scan}
 use Rattle.cpp_blocks.specs.declared.piece_names.Scan.TheVariants as scan

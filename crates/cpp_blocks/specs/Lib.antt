@@ -9,7 +9,7 @@ pub mod Counted
 pub mod Nested
 pub mod Kept
 pub mod Formulas
-pub mod KeptTurns
+pub mod Places
 pub mod Steps
 pub mod Facts
 pub mod Gathered

@@ -2,7 +2,7 @@
 -- appearance. Names inside opaque pieces do not count. This project's rule.
 use Rattle.std.specs.Prelude.{ℕ, Bool, List, [], ◌∷◌, ◌++◌, if◌then◌else◌}
 use Rattle.std.specs.List.{list_any, flat_map}
-use Rattle.ut_logic.specs.Text.{text_eq}
+use Rattle.ut_text.specs.Text.{text_eq}
 use Rattle.cpp_directives.specs.declared.condition.Cond.{Cond}
 use Rattle.cpp_directives.specs.declared.condition.Cond.TheOpen.{Cond-F}
 use Rattle.cpp_directives.specs.declared.condition.Cond.TheFolds.{fold-Cond}

@@ -5,7 +5,7 @@ use Rattle.std.specs.Hash as fed
 use Rattle.std.proofs.Common.{ap, subst, sym, ◌∙◌}
 use Rattle.std.proofs.lemmas.Bool.{false≢true, eqb-true}
 use Rattle.std.proofs.lemmas.Cmp.{and_equiv, on_equiv, nat_eq_equiv}
-use Rattle.ut_logic.specs.Text.{text_eq, text_equiv, text_eq-exact}
+use Rattle.ut_text.specs.Text.{text_eq, text_equiv, text_eq-exact}
 use Rattle.cpp_blocks.specs.declared.pieces.PieceOf.{PieceOf}
 
 -- the same text and the same number

@@ -2,7 +2,8 @@
 -- letters, digits and `_` that begins with no digit, outside strings and character literals.
 -- Rule: ISO C, "Lexical elements".
 use Rattle.std.specs.Prelude.{ℕ, ◌==◌, ◌||◌, List, [], ◌∷◌, ◌++◌, if◌then◌else◌}
-use Rattle.cpp_read.specs.Names.{is_letter, is_digit}
+use Rattle.ut_text.specs.Bytes.{Bytes, space}
+use Rattle.ut_text.specs.ByteClasses.{begins_names, is_digit, is_name_byte}
 
 -- where in the text a byte stands: between words, in a name, in a number, or in quotes
 pub data Within : Type 0 where
@@ -14,7 +15,7 @@ pub data Within : Type 0 where
 
 -- what a byte between words begins
 abbrev pub enters : ℕ → Within
-enters b = if is_letter b then Name (b ∷ []) else (if is_digit b then Number else (if (b == 34) || (b == 39) then Quotes b else Between))
+enters b = if begins_names b then Name (b ∷ []) else (if is_digit b then Number else (if (b == 34) || (b == 39) then Quotes b else Between))
 
 -- the name that ends there, if one does
 abbrev pub leaves : Within → List (List ℕ)
@@ -26,8 +27,8 @@ abbrev pub names_within : Within → List ℕ → List (List ℕ)
 names_within w [] = leaves w
 names_within (Quotes mark) (b ∷ bs) = if b == 92 then names_within (Escape mark) bs else (if b == mark then names_within Between bs else names_within (Quotes mark) bs)
 names_within (Escape mark) (b ∷ bs) = names_within (Quotes mark) bs
-names_within (Name name) (b ∷ bs) = if is_letter b || is_digit b then names_within (Name (name ++ b ∷ [])) bs else name ∷ names_within (enters b) bs
-names_within Number (b ∷ bs) = if b == 32 then names_within Between bs else names_within Number bs
+names_within (Name name) (b ∷ bs) = if is_name_byte b then names_within (Name (name ++ b ∷ [])) bs else name ∷ names_within (enters b) bs
+names_within Number (b ∷ bs) = if b == space then names_within Between bs else names_within Number bs
 names_within Between (b ∷ bs) = names_within (enters b) bs
 
 -- the names of a piece, in order

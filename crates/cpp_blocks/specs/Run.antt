@@ -3,7 +3,7 @@
 -- free truths of opaque pieces and of `#define` lines are this project's rule.
 use Rattle.std.specs.Prelude.{ℕ, Bool, true, false, not, ◌&&◌, ◌||◌, List, [], ◌∷◌, ◌++◌, if◌then◌else◌, get_or, filter, length}
 use Rattle.std.specs.List.{list_any, list_all}
-use Rattle.ut_logic.specs.Text.{text_eq}
+use Rattle.ut_text.specs.Text.{text_eq}
 use Rattle.cpp_directives.specs.declared.condition.Cond.{Cond}
 use Rattle.cpp_directives.specs.declared.condition.Cond.TheOpen.{Cond-F}
 use Rattle.cpp_directives.specs.declared.condition.Cond.TheFolds.{fold-Cond}

@@ -3,7 +3,7 @@
 use Rattle.std.specs.Prelude.{◌≡◌, ℕ, Option, List, [], ◌∷◌, ◌++◌, length, filter, unwrap_or}
 use Rattle.std.specs.List.{sum_by, flat_map}
 use Rattle.indexmap.specs.IndexMap.{get}
-use Rattle.ut_logic.specs.Text.{text_eq}
+use Rattle.ut_text.specs.Text.{text_eq}
 use Rattle.cpp_directives.specs.declared.condition.Cond.{Cond}
 use Rattle.cpp_directives.specs.declared.condition.Cond.TheOpen.{Cond-F}
 use Rattle.cpp_directives.specs.declared.condition.Cond.TheFolds.{fold-Cond}

@@ -1,6 +1,6 @@
 ghost use Rattle.std.specs.Prelude.{◌≡◌, ◌<◌, ◌≤◌, IfOk, nat_le, true, false, length};
 ghost use Rattle.std.specs.List.{position_or_len};
-ghost use Rattle.ut_logic.specs.Text.{text_eq};
+ghost use Rattle.ut_text.specs.Text.{text_eq};
 ghost use Rattle.cpp_blocks.specs.PieceIdentity.{piece_eq};
 ghost use Rattle.std.specs.List.Sorted.{IsPartitionPoint};
 ghost use Rattle.cpp_directives.specs.declared.directive.Directive as declared;

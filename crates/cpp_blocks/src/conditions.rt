@@ -3,12 +3,12 @@
 ghost use Rattle.std.specs.Prelude.{◌≡◌, ◌++◌, ◌∷◌, [], ℕ, map, IfOk, OnOk};
 ghost use Rattle.std.specs.List.{flat_map};
 ghost use Rattle.cpp_blocks.specs.Formulas as spec;
-ghost use Rattle.cpp_blocks.specs.KeptTurns.{kept_turns};
 ghost use Rattle.cpp_blocks.specs.Mentions.{names_in};
+ghost use Rattle.cpp_blocks.specs.Places.{source_at, turns_at};
 
 use crate::blocks::Blocks;
 use crate::pieces::PieceOf;
-use crate::turns::Turns;
+use crate::place::Place;
 use cpp_directives::Cond;
 use std::alloc::{AllocError, Global};
 use ut_logic::{Formula, Item, Node, Text, all_of, any_of, not_of};
@@ -20,7 +20,7 @@ fn name_number(blocks: &Blocks, name: &Text) -> Result<u32, AllocError>
     u32::try_from(blocks.number_of(name)).map_err(|_| AllocError)
 }
 
-/// A macro is defined behind so many of its lines.
+/// A macro is defined after so many of its lines.
 pub fn defined_item(file: u32, blocks: &Blocks, name: &Text, turn: u32) -> Result<Item, AllocError>
     ensures { IfOk result (λ i. i ≡ spec.defined_item (spec.source_of file blocks.now) name.now turn) }
 {
@@ -28,7 +28,7 @@ pub fn defined_item(file: u32, blocks: &Blocks, name: &Text, turn: u32) -> Resul
     Ok(Item::StateD { file, name, turn })
 }
 
-/// A macro is defined and true behind so many of its lines.
+/// A macro is defined and true after so many of its lines.
 pub fn true_item(file: u32, blocks: &Blocks, name: &Text, turn: u32) -> Result<Item, AllocError>
     ensures { IfOk result (λ i. i ≡ spec.true_item (spec.source_of file blocks.now) name.now turn) }
 {
@@ -36,7 +36,7 @@ pub fn true_item(file: u32, blocks: &Blocks, name: &Text, turn: u32) -> Result<I
     Ok(Item::StateT { file, name, turn })
 }
 
-/// The state of a macro behind so many of its lines.
+/// The state of a macro after so many of its lines.
 pub fn state_node(file: u32, blocks: &Blocks, name: &Text, turn: u32) -> Result<Node, AllocError>
     ensures { IfOk result (λ n. n ≡ spec.state_node (spec.source_of file blocks.now) name.now turn) }
 {
@@ -45,49 +45,40 @@ pub fn state_node(file: u32, blocks: &Blocks, name: &Text, turn: u32) -> Result<
 }
 
 /// The item of a piece there.
-fn piece_item(
-    alloc: Global,
-    file: u32,
-    blocks: &Blocks,
-    turns: &Turns,
-    text: &Text,
-) -> Result<Item, AllocError>
-    ensures { IfOk result (λ i. i ≡ Item.Piece file (spec.piece_in (spec.source_of file blocks.now) text.now ((kept_turns turns.now).piece text.now))) }
+fn piece_item(alloc: Global, place: &Place, text: &Text) -> Result<Item, AllocError>
+    ensures { IfOk result (λ i. i ≡ Item.Piece place.now.file (spec.piece_in (source_at place.now) text.now ((turns_at place.now).piece text.now))) }
 {
-    let turn = turns.of_piece(alloc, text)?;
+    let turn = place.turns.of_piece(alloc, text)?;
     let text = text.copy(alloc)?;
-    let number = blocks.piece_number(&PieceOf { text, turn });
+    let number = place.blocks.piece_number(&PieceOf { text, turn });
     let piece = u32::try_from(number).map_err(|_| AllocError)?;
-    Ok(Item::Piece { file, piece })
+    Ok(Item::Piece {
+        file: place.file,
+        piece,
+    })
 }
 
 /// The formula of a condition there.
 #[cycle(formulas)]
-pub fn formula(
-    alloc: Global,
-    file: u32,
-    blocks: &Blocks,
-    turns: &Turns,
-    cond: &Cond,
-) -> Result<Formula, AllocError>
-    ensures { IfOk result (λ f. f ≡ spec.formula_of (spec.source_of file blocks.now) (kept_turns turns.now) cond.now) }
+pub fn formula(alloc: Global, place: &Place, cond: &Cond) -> Result<Formula, AllocError>
+    ensures { IfOk result (λ f. f ≡ spec.formula_of (source_at place.now) (turns_at place.now) cond.now) }
 {
     match cond {
         Cond::Const(true) => Ok(Formula::Yes),
         Cond::Const(false) => Ok(Formula::No),
-        Cond::Defined(name) => Ok(Formula::Is(defined_item(file, blocks, name, turns.of(name))?)),
-        Cond::Plain(name) => Ok(Formula::Is(true_item(file, blocks, name, turns.of(name))?)),
-        Cond::Piece(text) => Ok(Formula::Is(piece_item(alloc, file, blocks, turns, text)?)),
+        Cond::Defined(name) => Ok(Formula::Is(defined_item(place.file, place.blocks, name, place.turns.of(name))?)),
+        Cond::Plain(name) => Ok(Formula::Is(true_item(place.file, place.blocks, name, place.turns.of(name))?)),
+        Cond::Piece(text) => Ok(Formula::Is(piece_item(alloc, place, text)?)),
         Cond::Neg(inner) => {
-            let inner = formula(alloc, file, blocks, turns, inner.get())?;
+            let inner = formula(alloc, place, inner.get())?;
             not_of(alloc, inner)
         }
         Cond::AllOf(list) => {
-            let all = formula_each(alloc, file, blocks, turns, list.as_slice())?;
+            let all = formula_each(alloc, place, list.as_slice())?;
             Ok(all_of(all))
         }
         Cond::AnyOf(list) => {
-            let all = formula_each(alloc, file, blocks, turns, list.as_slice())?;
+            let all = formula_each(alloc, place, list.as_slice())?;
             Ok(any_of(all))
         }
     }
@@ -97,69 +88,61 @@ pub fn formula(
 #[cycle(formulas)]
 fn formula_each(
     alloc: Global,
-    file: u32,
-    blocks: &Blocks,
-    turns: &Turns,
+    place: &Place,
     list: &[Cond],
 ) -> Result<Vec<Formula>, AllocError>
-    ensures { IfOk result (λ fs. fs.items ≡ map (spec.formula_of (spec.source_of file blocks.now) (kept_turns turns.now)) list.now) }
+    ensures { IfOk result (λ fs. fs.items ≡ map (spec.formula_of (source_at place.now) (turns_at place.now)) list.now) }
 {
     let mut all = Vec::with_capacity(alloc, list.len())?;
     for part in list {
-        all.push(formula(alloc, file, blocks, turns, part)?)?;
+        all.push(formula(alloc, place, part)?)?;
     }
     Ok(all)
 }
 
-/// Puts the state of a name there behind the others.
+/// Adds the state of a name there.
 fn add_state(
-    file: u32,
-    blocks: &Blocks,
-    turns: &Turns,
+    place: &Place,
     name: &Text,
     nodes: &mut Vec<Node>,
 ) -> Result<(), AllocError>
-    ensures { OnOk result (nodes.new.items ≡ nodes.old.items ++ spec.state_node (spec.source_of file blocks.now) name.now ((kept_turns turns.now).name name.now) ∷ []) }
+    ensures { OnOk result (nodes.new.items ≡ nodes.old.items ++ spec.state_node (source_at place.now) name.now ((turns_at place.now).name name.now) ∷ []) }
 {
-    nodes.push(state_node(file, blocks, name, turns.of(name))?)?;
+    nodes.push(state_node(place.file, place.blocks, name, place.turns.of(name))?)?;
     Ok(())
 }
 
-/// Puts the states that a condition refers to there behind the others.
+/// Adds the states that a condition refers to there.
 #[cycle(states)]
 pub fn add_states(
-    file: u32,
-    blocks: &Blocks,
-    turns: &Turns,
+    place: &Place,
     cond: &Cond,
     nodes: &mut Vec<Node>,
 ) -> Result<(), AllocError>
-    ensures { OnOk result (nodes.new.items ≡ nodes.old.items ++ spec.states_in (spec.source_of file blocks.now) (kept_turns turns.now) cond.now) }
+    ensures { OnOk result (nodes.new.items ≡ nodes.old.items ++ spec.states_in (source_at place.now) (turns_at place.now) cond.now) }
 {
     match cond {
         Cond::Const(_) => Ok(()),
-        Cond::Defined(name) => add_state(file, blocks, turns, name, nodes),
-        Cond::Plain(name) => add_state(file, blocks, turns, name, nodes),
+        Cond::Defined(name) => add_state(place, name, nodes),
+        Cond::Plain(name) => add_state(place, name, nodes),
         Cond::Piece(_) => Ok(()),
-        Cond::Neg(inner) => add_states(file, blocks, turns, inner.get(), nodes),
-        Cond::AllOf(list) => add_states_each(file, blocks, turns, list.as_slice(), nodes),
-        Cond::AnyOf(list) => add_states_each(file, blocks, turns, list.as_slice(), nodes),
+        Cond::Neg(inner) => add_states(place, inner.get(), nodes),
+        Cond::AllOf(list) => add_states_each(place, list.as_slice(), nodes),
+        Cond::AnyOf(list) => add_states_each(place, list.as_slice(), nodes),
     }
 }
 
-/// Puts the states that several conditions refer to there behind the others.
+/// Adds the states that several conditions refer to there.
 #[cycle(states)]
 fn add_states_each(
-    file: u32,
-    blocks: &Blocks,
-    turns: &Turns,
+    place: &Place,
     list: &[Cond],
     nodes: &mut Vec<Node>,
 ) -> Result<(), AllocError>
-    ensures { OnOk result (nodes.new.items ≡ nodes.old.items ++ map (λ name. spec.state_node (spec.source_of file blocks.now) name ((kept_turns turns.now).name name)) (flat_map (λ found. found) (map names_in list.now))) }
+    ensures { OnOk result (nodes.new.items ≡ nodes.old.items ++ map (λ name. spec.state_node (source_at place.now) name ((turns_at place.now).name name)) (flat_map (λ found. found) (map names_in list.now))) }
 {
     for part in list {
-        add_states(file, blocks, turns, part, nodes)?;
+        add_states(place, part, nodes)?;
     }
     Ok(())
 }

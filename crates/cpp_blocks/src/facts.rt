@@ -1,16 +1,39 @@
 //! The facts of blocks and of macro lines.
 
-ghost use Rattle.std.specs.Prelude.{◌≡◌, ◌++◌, ◌∷◌, [], map, filter, IfOk, OnOk};
-ghost use Rattle.ut_logic.specs.Truth.{mentioned, together};
+ghost use Rattle.std.specs.Prelude.{◌≡◌, ◌++◌, ◌∷◌, [], map, filter, IfOk};
+ghost use Rattle.ut_logic.specs.Truth.{mentioned};
 ghost use Rattle.ut_logic.specs.Fold as fold;
+ghost use Rattle.cpp_blocks.specs.Places.{group_at, state_at, define_at, undef_at};
 ghost use Rattle.cpp_blocks.specs.Steps as spec;
-ghost use Rattle.cpp_blocks.specs.Formulas.{source_of};
 
 use crate::blocks::Blocks;
 use crate::conditions::{defined_item, state_node, true_item};
 use cpp_directives::Gives;
 use std::alloc::{AllocError, Global};
-use ut_logic::{Definition, Fact, Formula, Item, Node, Sequence, Text, all_of, any_of, not_of};
+use ut_logic::{
+    Definition, Fact, Formula, Item, Node, Sequence, Text, all_of, any_of, mention, not_of,
+};
+
+/// A group of a chain: its block, the block round the chain, the groups before it, and the states that its
+/// condition refers to.
+#[derive(Clone, Copy)]
+pub struct Group<'a> {
+    pub file: u32,
+    pub block: u32,
+    pub parent: u32,
+    pub earlier: &'a [u32],
+    pub states: &'a [Node],
+}
+
+/// A macro line in a block: the macro's name, and how many of its lines stand before this one.
+#[derive(Clone, Copy)]
+pub struct MacroLine<'a> {
+    pub file: u32,
+    pub blocks: &'a Blocks,
+    pub block: u32,
+    pub name: &'a Text,
+    pub turn: u32,
+}
 
 /// The block is on.
 fn on(file: u32, block: u32) -> Formula
@@ -64,35 +87,6 @@ fn is_piece(item: Item) -> bool
     matches!(item, Item::Piece { .. })
 }
 
-/// Adds the items that the formula mentions.
-#[cycle(mention)]
-fn mention(f: &Formula, items: &mut Vec<Item>) -> Result<(), AllocError>
-    ensures { OnOk result (items.new.items ≡ items.old.items ++ mentioned f.now) }
-{
-    match f {
-        Formula::Yes => Ok(()),
-        Formula::No => Ok(()),
-        Formula::Is(item) => {
-            items.push(*item)?;
-            Ok(())
-        }
-        Formula::Neg(inner) => mention(inner.get(), items),
-        Formula::AllOf(list) => mention_each(list.as_slice(), items),
-        Formula::AnyOf(list) => mention_each(list.as_slice(), items),
-    }
-}
-
-/// The items of each formula, behind one another.
-#[cycle(mention)]
-fn mention_each(list: &[Formula], items: &mut Vec<Item>) -> Result<(), AllocError>
-    ensures { OnOk result (items.new.items ≡ items.old.items ++ together (map mentioned list.now)) }
-{
-    for f in list {
-        mention(f, items)?;
-    }
-    Ok(())
-}
-
 /// Lets all go but the pieces.
 fn keep_pieces(items: &mut Vec<Item>)
     ensures { items.new.items ≡ filter spec.is_piece items.old.items }
@@ -138,51 +132,46 @@ fn block_names(
     Ok(names)
 }
 
-/// The fact of a group with this condition, which refers to these states.
-pub fn group_fact(
-    alloc: Global,
-    file: u32,
-    block: u32,
-    parent: u32,
-    earlier: &[u32],
-    states: &[Node],
-    cond: Formula,
-) -> Result<Fact, AllocError>
-    ensures { IfOk result (λ fact. fact ≡ spec.group_fact file block parent earlier.now states.now cond) }
+/// The fact of a group with this condition.
+pub fn group_fact(alloc: Global, group: &Group, cond: Formula) -> Result<Fact, AllocError>
+    ensures { IfOk result (λ fact. fact ≡ group_at group.now cond) }
 {
+    let (file, block) = (group.file, group.block);
+    let formula = group_formula(alloc, file, group.parent, group.earlier, cond)?;
     let item = Item::Block { file, block };
-    let formula = group_formula(alloc, file, parent, earlier, cond)?;
     let items = block_items(alloc, item, &formula)?;
-    let names = block_names(alloc, file, parent, earlier, states)?;
+    let names = block_names(alloc, file, group.parent, group.earlier, group.states)?;
+    let defines = vec![in alloc; Definition { item, formula }]?;
     Ok(Fact {
         node: Node::Block { file, block },
         holds: Sequence::new(alloc),
-        defines: Sequence::from_vec(vec![in alloc; Definition { item, formula }]?),
+        defines: Sequence::from_vec(defines),
         names: Sequence::from_vec(names),
         items: Sequence::from_vec(items),
     })
 }
 
-/// The fact of a macro's state behind a line of it in a block, where it was in the state of this turn before.
+/// The fact of a macro's state after a line of it, where these formulas say when it is defined and when true.
 fn state_fact(
     alloc: Global,
-    file: u32,
-    blocks: &Blocks,
-    name: &Text,
-    turn: u32,
-    block: u32,
+    line: &MacroLine,
     d: Formula,
     t: Formula,
     more: &[Item],
 ) -> Result<Fact, AllocError>
-    ensures { IfOk result (λ fact. fact ≡ spec.state_fact (source_of file blocks.now) name.now turn block d t more.now) }
+    ensures { IfOk result (λ fact. fact ≡ state_at line.now d t more.now) }
 {
-    let next = turn.checked_add(1).ok_or(AllocError)?;
+    let (file, blocks, name) = (line.file, line.blocks, line.name);
+    let next = line.turn.checked_add(1).ok_or(AllocError)?;
     let defined = defined_item(file, blocks, name, next)?;
     let truth = true_item(file, blocks, name, next)?;
     let mut items = vec![in alloc; defined, truth]?;
     items.extend_from_slice(more)?;
-    let earlier = state_node(file, blocks, name, turn)?;
+    let earlier = state_node(file, blocks, name, line.turn)?;
+    let block = Node::Block {
+        file,
+        block: line.block,
+    };
     let defines = vec![in alloc;
         Definition {
             item: defined,
@@ -197,7 +186,7 @@ fn state_fact(
         node: state_node(file, blocks, name, next)?,
         holds: Sequence::new(alloc),
         defines: Sequence::from_vec(defines),
-        names: Sequence::from_vec(vec![in alloc; earlier, Node::Block { file, block }]?),
+        names: Sequence::from_vec(vec![in alloc; earlier, block]?),
         items: Sequence::from_vec(items),
     })
 }
@@ -224,43 +213,34 @@ fn given_items(alloc: Global, file: u32, line: u32, gives: Gives) -> Result<Vec<
     }
 }
 
-/// The fact behind a `#define` in a block.
+/// The fact of a `#define` that stands on this physical line.
 pub fn define_fact(
     alloc: Global,
-    file: u32,
-    blocks: &Blocks,
-    name: &Text,
-    turn: u32,
-    block: u32,
-    line: u32,
+    line: &MacroLine,
+    number: u32,
     gives: Gives,
 ) -> Result<Fact, AllocError>
-    ensures { IfOk result (λ fact. fact ≡ spec.define_fact (source_of file blocks.now) name.now turn block line gives) }
+    ensures { IfOk result (λ fact. fact ≡ define_at line.now number gives) }
 {
-    let before = Formula::Is(defined_item(file, blocks, name, turn)?);
+    let (file, block) = (line.file, line.block);
+    let before = Formula::Is(defined_item(file, line.blocks, line.name, line.turn)?);
     let d = any_of(vec![in alloc; on(file, block), before]?);
-    let before = Formula::Is(true_item(file, blocks, name, turn)?);
-    let given = all_of(vec![in alloc; on(file, block), given_truth(file, line, gives)]?);
+    let before = Formula::Is(true_item(file, line.blocks, line.name, line.turn)?);
+    let given = all_of(vec![in alloc; on(file, block), given_truth(file, number, gives)]?);
     let kept = all_of(vec![in alloc; off(alloc, file, block)?, before]?);
     let t = any_of(vec![in alloc; given, kept]?);
-    let more = given_items(alloc, file, line, gives)?;
-    state_fact(alloc, file, blocks, name, turn, block, d, t, &more)
+    let more = given_items(alloc, file, number, gives)?;
+    state_fact(alloc, line, d, t, &more)
 }
 
-/// The fact behind an `#undef` in a block.
-pub fn undef_fact(
-    alloc: Global,
-    file: u32,
-    blocks: &Blocks,
-    name: &Text,
-    turn: u32,
-    block: u32,
-) -> Result<Fact, AllocError>
-    ensures { IfOk result (λ fact. fact ≡ spec.undef_fact (source_of file blocks.now) name.now turn block) }
+/// The fact of an `#undef`.
+pub fn undef_fact(alloc: Global, line: &MacroLine) -> Result<Fact, AllocError>
+    ensures { IfOk result (λ fact. fact ≡ undef_at line.now) }
 {
-    let before = Formula::Is(defined_item(file, blocks, name, turn)?);
+    let (file, block) = (line.file, line.block);
+    let before = Formula::Is(defined_item(file, line.blocks, line.name, line.turn)?);
     let d = all_of(vec![in alloc; off(alloc, file, block)?, before]?);
-    let before = Formula::Is(true_item(file, blocks, name, turn)?);
+    let before = Formula::Is(true_item(file, line.blocks, line.name, line.turn)?);
     let t = all_of(vec![in alloc; off(alloc, file, block)?, before]?);
-    state_fact(alloc, file, blocks, name, turn, block, d, t, &[])
+    state_fact(alloc, line, d, t, &[])
 }

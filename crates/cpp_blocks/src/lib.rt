@@ -18,6 +18,7 @@ mod mentions;
 mod nesting;
 mod piece_names;
 mod pieces;
+mod place;
 mod source_facts;
 mod starts;
 mod state;

@@ -2,7 +2,7 @@
 
 ghost use Rattle.std.specs.Prelude.{◌≡◌, [], map, IfOk, OnOk};
 ghost use Rattle.std.specs.List.{flat_map};
-ghost use Rattle.ut_logic.specs.Text.{text_eq};
+ghost use Rattle.ut_text.specs.Text.{text_eq};
 ghost use Rattle.cpp_blocks.specs.PieceIdentity.{piece_eq};
 ghost use Rattle.cpp_blocks.specs.Mentions as spec;
 ghost use Rattle.cpp_blocks.specs.Turns as turn;

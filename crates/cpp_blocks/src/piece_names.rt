@@ -1,13 +1,11 @@
 //! The names in the text of an opaque piece.
 
-ghost use Rattle.std.specs.Prelude.{◌≡◌, ℕ, List, ◌∷◌, ◌++◌, true, IfOk, OnOk};
-ghost use Rattle.std.specs.List.{list_all};
-ghost use Rattle.cpp_read.specs.Names as names;
+ghost use Rattle.std.specs.Prelude.{◌≡◌, ℕ, List, ◌∷◌, ◌++◌, IfOk, OnOk};
 ghost use Rattle.cpp_blocks.specs.Pieces.{enters, leaves, names_within, names_of_piece, Quotes};
 ghost use Rattle.cpp_blocks.specs.Counted.{within_of, IsPlain};
 
 use std::alloc::{AllocError, Global};
-use ut_logic::Text;
+use ut_text::{Text, begins_names, is_digit, is_name_byte};
 
 /// Where a scan of a piece's text stands: between words, behind the bytes of a name, in a number, in quotes
 /// with this mark, or there behind a backslash.
@@ -20,29 +18,15 @@ pub enum Scan {
     Escape(u8),
 }
 
-/// A letter or `_`.
-fn is_letter(byte: u8) -> bool
-    ensures { result ≡ names.is_letter byte }
-{
-    byte.is_ascii_lowercase() || byte.is_ascii_uppercase() || byte == b'_'
-}
-
-/// A letter, a digit or `_`.
-fn is_name_byte(byte: u8) -> bool
-    ensures { result ≡ names.is_name_byte byte }
-{
-    is_letter(byte) || byte.is_ascii_digit()
-}
-
 /// What a byte between words begins.
 fn enter(alloc: Global, byte: u8) -> Result<Scan, AllocError>
     ensures begins { IfOk result (λ s. within_of s ≡ enters byte) }
     ensures plain { IfOk result (λ s. IsPlain (within_of s)) }
 {
-    if is_letter(byte) {
+    if begins_names(byte) {
         return Ok(Scan::Name(vec![in alloc; byte]?));
     }
-    if byte.is_ascii_digit() {
+    if is_digit(byte) {
         return Ok(Scan::Number);
     }
     if byte == b'"' || byte == b'\'' {
@@ -51,21 +35,13 @@ fn enter(alloc: Global, byte: u8) -> Result<Scan, AllocError>
     Ok(Scan::Between)
 }
 
-/// A name as a text.
-fn name_text(alloc: Global, word: &[u8]) -> Result<Text, AllocError>
-    requires { list_all names.is_name_byte word.now ≡ true }
-    ensures { IfOk result (λ t. t ≡ word.now) }
-{
-    Text::of_bytes(alloc, word)
-}
-
 /// Puts the name that ends there, if one does, behind the others.
 fn leave(alloc: Global, scan: Scan, found: &mut Vec<Text>) -> Result<(), AllocError>
     requires { IsPlain (within_of scan) }
     ensures { OnOk result (found.new.items ≡ found.old.items ++ leaves (within_of scan)) }
 {
     if let Scan::Name(word) = scan {
-        found.push(name_text(alloc, &word)?)?;
+        found.push(Text::of_name(alloc, &word)?)?;
     }
     Ok(())
 }
@@ -83,7 +59,7 @@ fn pass(alloc: Global, scan: Scan, byte: u8, found: &mut Vec<Text>) -> Result<Sc
                 word.push(byte)?;
                 return Ok(Scan::Name(word));
             }
-            found.push(name_text(alloc, &word)?)?;
+            found.push(Text::of_name(alloc, &word)?)?;
             enter(alloc, byte)
         }
         Scan::Number => Ok(if byte == b' ' {

@@ -1,16 +1,17 @@
 ghost use Rattle.std.specs.Prelude.{◌≡◌, ◌++◌, ◌∷◌, [], length, true, slice_get, IfOk, option_to_list};
 ghost use Rattle.cpp_blocks.specs.Formulas.{source_of, states_in};
-ghost use Rattle.cpp_blocks.specs.KeptTurns.{kept_turns};
 ghost use Rattle.cpp_blocks.specs.Mentions.{names_of};
+ghost use Rattle.cpp_blocks.specs.Places.{source_at, turns_at};
 ghost use Rattle.cpp_blocks.specs.Solution.{IsTheRun};
 ghost use Rattle.cpp_blocks.specs.Steps as spec;
 ghost use Rattle.cpp_blocks.specs.Facts.{facts_of, AreStarts, is_outside};
 
 use crate::blocks::Blocks;
 use crate::conditions::{add_states, formula};
-use crate::facts::{define_fact, group_fact, undef_fact};
+use crate::facts::{Group, MacroLine, define_fact, group_fact, undef_fact};
 use crate::gathered::Gathered;
 use crate::groups::{Groups, OpenGroups};
+use crate::place::Place;
 use crate::starts::{BuiltOf, StartOf};
 use crate::turns::Turns;
 use cpp_directives::{Cond, Directive, What};
@@ -18,17 +19,11 @@ use std::alloc::{AllocError, Global};
 use ut_logic::{Fact, Facts, Formula, Node};
 
 /// The states that a condition refers to there.
-fn states_of(
-    alloc: Global,
-    file: u32,
-    blocks: &Blocks,
-    turns: &Turns,
-    cond: &Cond,
-) -> Result<Vec<Node>, AllocError>
-    ensures { IfOk result (λ v. v.items ≡ states_in (source_of file blocks.now) (kept_turns turns.now) cond.now) }
+fn states_of(alloc: Global, place: &Place, cond: &Cond) -> Result<Vec<Node>, AllocError>
+    ensures { IfOk result (λ v. v.items ≡ states_in (source_at place.now) (turns_at place.now) cond.now) }
 {
     let mut nodes = Vec::new(alloc);
-    add_states(file, blocks, turns, cond, &mut nodes)?;
+    add_states(place, cond, &mut nodes)?;
     Ok(nodes)
 }
 
@@ -54,16 +49,14 @@ fn next_group(
     match groups.innermost() {
         Some(chain) => {
             let earlier = groups_so_far(alloc, chain)?;
-            let fact = group_fact(
-                alloc,
+            let group = Group {
                 file,
-                groups.next(),
-                chain.parent,
-                &earlier,
+                block: groups.next(),
+                parent: chain.parent,
+                earlier: &earlier,
                 states,
-                cond,
-            )?;
-            Ok(Some(fact))
+            };
+            Ok(Some(group_fact(alloc, &group, cond)?))
         }
         None => Ok(None),
     }
@@ -79,58 +72,57 @@ fn first_group(
 ) -> Result<Option<Fact>, AllocError>
     ensures { IfOk result (λ o. option_to_list o ≡ spec.group_fact file groups.now.next (spec.current groups.now.chains) [] states.now cond ∷ []) }
 {
-    let fact = group_fact(
-        alloc,
+    let group = Group {
         file,
-        groups.next(),
-        groups.current(),
-        &[],
+        block: groups.next(),
+        parent: groups.current(),
+        earlier: &[],
         states,
-        cond,
-    )?;
-    Ok(Some(fact))
+    };
+    Ok(Some(group_fact(alloc, &group, cond)?))
 }
 
 /// The fact of a directive, if it has one.
 fn fact_at(
     alloc: Global,
-    file: u32,
-    blocks: &Blocks,
-    turns: &Turns,
+    place: &Place,
     groups: &Groups,
     directive: &Directive,
 ) -> Result<Option<Fact>, AllocError>
-    ensures { IfOk result (λ o. option_to_list o ≡ spec.fact_at (source_of file blocks.now) (kept_turns turns.now) groups.now directive.now.line directive.now.what) }
+    ensures { IfOk result (λ o. option_to_list o ≡ spec.fact_at (source_at place.now) (turns_at place.now) groups.now directive.now.line directive.now.what) }
 {
     match &directive.what {
         What::If(cond) => {
-            let states = states_of(alloc, file, blocks, turns, cond)?;
-            let formula = formula(alloc, file, blocks, turns, cond)?;
-            first_group(alloc, file, groups, &states, formula)
+            let states = states_of(alloc, place, cond)?;
+            let formula = formula(alloc, place, cond)?;
+            first_group(alloc, place.file, groups, &states, formula)
         }
         What::Elif(cond) => {
-            let states = states_of(alloc, file, blocks, turns, cond)?;
-            let formula = formula(alloc, file, blocks, turns, cond)?;
-            next_group(alloc, file, groups, &states, formula)
+            let states = states_of(alloc, place, cond)?;
+            let formula = formula(alloc, place, cond)?;
+            next_group(alloc, place.file, groups, &states, formula)
         }
-        What::Else => next_group(alloc, file, groups, &[], Formula::Yes),
+        What::Else => next_group(alloc, place.file, groups, &[], Formula::Yes),
         What::Endif => Ok(None),
         What::Define { name, gives } => {
-            let (turn, block) = (turns.of(name), groups.current());
-            Ok(Some(define_fact(
-                alloc,
-                file,
-                blocks,
+            let line = MacroLine {
+                file: place.file,
+                blocks: place.blocks,
+                block: groups.current(),
                 name,
-                turn,
-                block,
-                directive.line,
-                *gives,
-            )?))
+                turn: place.turns.of(name),
+            };
+            Ok(Some(define_fact(alloc, &line, directive.line, *gives)?))
         }
         What::Undef { name } => {
-            let (turn, block) = (turns.of(name), groups.current());
-            Ok(Some(undef_fact(alloc, file, blocks, name, turn, block)?))
+            let line = MacroLine {
+                file: place.file,
+                blocks: place.blocks,
+                block: groups.current(),
+                name,
+                turn: place.turns.of(name),
+            };
+            Ok(Some(undef_fact(alloc, &line)?))
         }
     }
 }
@@ -156,7 +148,12 @@ pub fn block_facts(
     let mut turns = Turns::new(alloc);
     let mut groups = Groups::new(alloc);
     for directive in blocks.directives() {
-        let fact = fact_at(alloc, file, blocks, &turns, &groups, directive)?;
+        let place = Place {
+            file,
+            blocks,
+            turns: &turns,
+        };
+        let fact = fact_at(alloc, &place, &groups, directive)?;
         facts.put(fact)?;
         turns.pass(alloc, &directive.what)?;
         groups.pass(alloc, &directive.what)?;

@@ -1,6 +1,6 @@
 ghost use Rattle.std.specs.Prelude.{◌≡◌, ◌++◌, ℕ, suc, List, [], IfOk, OnOk, if◌then◌else◌};
 ghost use Rattle.std.specs.List.{sum_by};
-ghost use Rattle.ut_logic.specs.Text.{text_eq};
+ghost use Rattle.ut_text.specs.Text.{text_eq};
 ghost use Rattle.cpp_blocks.specs.Mentions.{firsts};
 ghost use Rattle.cpp_blocks.specs.Counted.{turn_in, IsCounted, piece_turn};
 ghost use Rattle.cpp_blocks.specs.Pieces.{names_of_piece};

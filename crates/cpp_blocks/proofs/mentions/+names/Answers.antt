@@ -1,6 +1,6 @@
 use Rattle.std.proofs.Common.{◌+◌, sym, ap, ◌∙◌, drop, map, arith}
 use Rattle.std.specs.List.{flat_map}
-use Rattle.ut_logic.specs.Text.{text_eq}
+use Rattle.ut_text.specs.Text.{text_eq}
 use Rattle.cpp_blocks.specs.Mentions.{firsts, names_in}
 use Rattle.cpp_blocks.proofs.FirstsLaws.{firsts_map_next}
 use Rattle.cpp_blocks.proofs.mentions.+names.Goals as goal

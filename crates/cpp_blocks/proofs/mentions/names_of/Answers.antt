@@ -1,6 +1,6 @@
 use Rattle.std.proofs.Common.{◌+◌, sym, ap, ◌∙◌, drop, arith}
 use Rattle.std.specs.List.{flat_map}
-use Rattle.ut_logic.specs.Text.{text_eq}
+use Rattle.ut_text.specs.Text.{text_eq}
 use Rattle.cpp_directives.specs.declared.directive.Directive.{Directive}
 use Rattle.cpp_blocks.specs.Mentions.{firsts, names_at}
 use Rattle.cpp_blocks.proofs.FirstsLaws.{firsts_next}

@@ -1,7 +1,7 @@
 -- The names of what is left, behind what is there, give the whole.
 use Rattle.std.proofs.Common.{◌≡◌, [], drop}
 use Rattle.std.specs.List.{flat_map}
-use Rattle.ut_logic.specs.Text.{text_eq}
+use Rattle.ut_text.specs.Text.{text_eq}
 use Rattle.cpp_blocks.specs.Mentions.{firsts, names_at, names_of}
 use Rattle.cpp_blocks.proofs.mentions.names_of.Given as goal
 

@@ -1,6 +1,6 @@
 -- The new ones of what is left, behind what is there, give the whole.
 use Rattle.std.proofs.Common.{◌≡◌, [], drop}
-use Rattle.ut_logic.specs.Text.{text_eq}
+use Rattle.ut_text.specs.Text.{text_eq}
 use Rattle.cpp_blocks.specs.Mentions.{firsts}
 use Rattle.cpp_blocks.proofs.turns.distinct.Given as goal
 

@@ -1,6 +1,6 @@
 use Rattle.std.proofs.Common.{sym, ap, ◌∙◌}
 use Rattle.std.specs.List.{position_or_len}
-use Rattle.ut_logic.specs.Text.{text_eq}
+use Rattle.ut_text.specs.Text.{text_eq}
 use Rattle.cpp_blocks.specs.Mentions.{names_of}
 use Rattle.cpp_blocks.proofs.FirstsLaws.{absent}
 use Rattle.cpp_blocks.proofs.blocks.Blocks.number_of.Goals as goal
