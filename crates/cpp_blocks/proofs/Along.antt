@@ -1,29 +1,27 @@
 -- An assignment goes along a run, from directive to directive.
-use Rattle.std.proofs.Common.{◌≡◌, ℕ, ◌+◌, ◌<◌, ◌≤◌, zero, suc, Bool, true, false, not, ◌&&◌, ◌||◌, cond, List, [], ◌∷◌, ◌++◌, length, map, filter, get_or, refl, sym, ap, ◌∙◌, subst, arith, length-append, ◌⊎◌, inl, inr}
-use Rattle.std.specs.List.{list_any, list_all, flat_map}
+use Rattle.std.proofs.Common.{◌≡◌, ℕ, ◌+◌, ◌<◌, zero, suc, Bool, true, false, not, ◌&&◌, cond, List, [], ◌∷◌, ◌++◌, length, map, filter, get_or, refl, sym, ap, ◌∙◌, subst, arith, length-append}
+use Rattle.std.specs.List.{flat_map}
 use Rattle.std.proofs.Math.ListN.{get_or-append}
-use Rattle.std.proofs.lemmas.Bool.{false≢true}
 use Rattle.std.proofs.lemmas.List.{append-nil}
 use Rattle.ut_logic.specs.declared.item.Item.{Item}
 use Rattle.ut_logic.specs.declared.item.Item.TheVariants as item
-use Rattle.ut_logic.specs.declared.facts.Fact.{Fact}
 use Rattle.ut_logic.specs.Facts.{Meets}
-use Rattle.ut_text.specs.Text.{text_eq, text_equiv, text_eq-exact}
+use Rattle.ut_text.specs.Text.{text_eq, text_equiv}
 use Rattle.cpp_directives.specs.declared.directive.Directive.{Directive}
 use Rattle.cpp_directives.specs.declared.directive.What.{What}
 use Rattle.cpp_directives.specs.declared.directive.What.TheVariants.{If, Elif, Else, Endif, Define, Undef}
 use Rattle.cpp_blocks.specs.declared.groups.OpenGroups.{OpenGroups}
 use Rattle.cpp_blocks.specs.declared.state.MacroState.{MacroState}
 use Rattle.cpp_blocks.specs.declared.state.MacroState.TheVariants.{Undefined}
-use Rattle.cpp_blocks.specs.Formulas.{Source, turns_behind, piece_in, defined_item, true_item}
+use Rattle.cpp_blocks.specs.Formulas.{Source, turns_after, piece_in}
 use Rattle.cpp_blocks.specs.Mentions.{names_at}
-use Rattle.cpp_blocks.specs.Run.{Start, Running, OpenChain, is_defined, is_true, holds, opened, turned, closed, sets, given, step, run_from}
-use Rattle.cpp_blocks.specs.Solution.{states_behind}
-use Rattle.cpp_blocks.specs.Steps.{Standing, behind, fact_at, facts_along}
-use Rattle.cpp_blocks.specs.Turns.{turn_of, touched_at, touched_in}
+use Rattle.cpp_blocks.specs.Run.{Start, Running, OpenChain, holds, opened, turned, closed, sets, given, step, run_from}
+use Rattle.cpp_blocks.specs.Solution.{states_after}
+use Rattle.cpp_blocks.specs.Steps.{Standing, after, fact_at, facts_along}
+use Rattle.cpp_blocks.specs.Turns.{turn_of, touched_at}
 use Rattle.cpp_blocks.proofs.CondTruth.{is_known, Known, known_front, known_back, and_front, StatesStand}
 use Rattle.cpp_blocks.proofs.Meeting.{Each, met}
-use Rattle.cpp_blocks.proofs.Standing.{ChainsStand, Stands, RightGroup, RightState, Right, last_of, next_stands}
+use Rattle.cpp_blocks.proofs.Standing.{Stands, RightGroup, RightState, Right, last_of, next_stands}
 use Rattle.cpp_blocks.proofs.TurnLaws.{one_more}
 
 -- ---- lists
@@ -44,10 +42,10 @@ each_both P (x ∷ xs) ys h g = (h.0, each_both P xs ys h.1 g)
 abbrev pub AllKnown : Source → List Directive → Type 0
 AllKnown src ds = Known src (flat_map (λ d. names_at d.what) ds)
 
--- where the directives behind it lead
+-- where the directives after it lead
 abbrev pub at_end : Standing → List Directive → Standing
 at_end at [] = at
-at_end at (d ∷ ds) = at_end (behind at d.what) ds
+at_end at (d ∷ ds) = at_end (after at d.what) ds
 
 abbrev pub touched_end : List (List ℕ) → List Directive → List (List ℕ)
 touched_end touched [] = touched
@@ -82,8 +80,8 @@ run_keeps start (d ∷ ds) r b l = let k = step_keeps start r d.line d.what b l 
 
 -- the assignment gives the states that are still to come their truths in the run
 abbrev pub StatesCome : Source → Start → (Item → Bool) → List (List ℕ) → Running → List Directive → Type 0
-StatesCome src start v touched r ds = (name : List ℕ) → is_known src name ≡ true → (k : ℕ) → k < length (states_behind start r name ds)
-    → RightState src v name (turn_of touched name + suc k) (get_or (states_behind start r name ds) k Undefined)
+StatesCome src start v touched r ds = (name : List ℕ) → is_known src name ≡ true → (k : ℕ) → k < length (states_after start r name ds)
+    → RightState src v name (turn_of touched name + suc k) (get_or (states_after start r name ds) k Undefined)
 
 none_below : (n : ℕ) → n < 0 → ⊥
 none_below n l = omega arith
@@ -91,10 +89,10 @@ none_below n l = omega arith
 itself : (x : List ℕ) → text_eq x x ≡ true
 itself x = text_equiv.refl x
 
--- the state behind the next line of a macro
-own_first : (start : Start) (r : Running) (d : Directive) (ds : List Directive) (x : List ℕ) → touched_at d.what ≡ x ∷ [] → states_behind start r x (d ∷ ds) ≡ (step start r d).macros x ∷ states_behind start (step start r d) x ds
-own_first start r d ds x e = ap (λ ts. map (λ line. (step start r d).macros x) (filter (λ line. text_eq line x) ts) ++ states_behind start (step start r d) x ds) e
-    ∙ ap (λ b. map (λ line. (step start r d).macros x) (cond b (x ∷ []) []) ++ states_behind start (step start r d) x ds) (itself x)
+-- the state after the next line of a macro
+own_first : (start : Start) (r : Running) (d : Directive) (ds : List Directive) (x : List ℕ) → touched_at d.what ≡ x ∷ [] → states_after start r x (d ∷ ds) ≡ (step start r d).macros x ∷ states_after start (step start r d) x ds
+own_first start r d ds x e = ap (λ ts. map (λ line. (step start r d).macros x) (filter (λ line. text_eq line x) ts) ++ states_after start (step start r d) x ds) e
+    ∙ ap (λ b. map (λ line. (step start r d).macros x) (cond b (x ∷ []) []) ++ states_after start (step start r d) x ds) (itself x)
 
 own_state : (start : Start) (r : Running) (x : List ℕ) (state : MacroState) → (sets r x state).macros x ≡ cond r.on state (r.macros x)
 own_state start r x state = ap (λ b. cond (r.on && b) state (r.macros x)) (itself x) ∙ both r.on
@@ -105,26 +103,26 @@ own_state start r x state = ap (λ b. cond (r.on && b) state (r.macros x)) (itse
 
 module _ (src : Source) (start : Start) (v : Item → Bool) (pieces : (text : List ℕ) (turn : ℕ) → v (item.Piece src.file (piece_in src text turn)) ≡ start.piece text turn)
     (lines : (line : ℕ) → v (item.Line src.file line) ≡ start.line line) where
-  -- an assignment that meets the facts stands as the run behind the next directive
+  -- an assignment that meets the facts stands as the run after the next directive
   pub goes_on : (at : Standing) (touched : List (List ℕ)) (r : Running) (d : Directive) (ds : List Directive) → Stands src v at touched r → AllKnown src (d ∷ ds) → Each (Meets v) (facts_along src touched at (d ∷ ds))
-      → Stands src v (behind at d.what) (touched ++ touched_at d.what) (step start r d)
+      → Stands src v (after at d.what) (touched ++ touched_at d.what) (step start r d)
   goes_on at touched r d ds s known h = next_stands src start v at touched r d s
       ((met src start v pieces lines at touched r d.line d.what s (known_front src (names_at d.what) (flat_map (λ x. names_at x.what) ds) known)).to
-      (each_front (Meets v) (fact_at src (turns_behind touched) at d.line d.what) (facts_along src (touched ++ touched_at d.what) (behind at d.what) ds) h))
+      (each_front (Meets v) (fact_at src (turns_after touched) at d.line d.what) (facts_along src (touched ++ touched_at d.what) (after at d.what) ds) h))
 
   -- and so to the end
   pub stands_at_end : (ds : List Directive) (at : Standing) (touched : List (List ℕ)) (r : Running) → Stands src v at touched r → AllKnown src ds → Each (Meets v) (facts_along src touched at ds)
       → Stands src v (at_end at ds) (touched_end touched ds) (run_from start r ds)
   stands_at_end [] at touched r s known h = s
-  stands_at_end (d ∷ ds) at touched r s known h = stands_at_end ds (behind at d.what) (touched ++ touched_at d.what) (step start r d)
+  stands_at_end (d ∷ ds) at touched r s known h = stands_at_end ds (after at d.what) (touched ++ touched_at d.what) (step start r d)
       (goes_on at touched r d ds s known h)
       (known_back src (names_at d.what) (flat_map (λ x. names_at x.what) ds) known)
-      (each_back (Meets v) (fact_at src (turns_behind touched) at d.line d.what) (facts_along src (touched ++ touched_at d.what) (behind at d.what) ds) h)
+      (each_back (Meets v) (fact_at src (turns_after touched) at d.line d.what) (facts_along src (touched ++ touched_at d.what) (after at d.what) ds) h)
 
   moved : (name : List ℕ) (m n : ℕ) (s : MacroState) → m ≡ n → RightState src v name m s → RightState src v name n s
   moved name m n s e h = subst (λ t. RightState src v name t s) e h
 
-  -- behind a line of a macro its next state comes first, and those of the others stay
+  -- after a line of a macro its next state comes first, and those of the others stay
   one_line : (touched : List (List ℕ)) (x name : List ℕ) (now : MacroState) (later : List MacroState) → RightState src v name (turn_of (touched ++ x ∷ []) name) now
       → ((k : ℕ) → k < length later → RightState src v name (turn_of (touched ++ x ∷ []) name + suc k) (get_or later k Undefined))
       → (k : ℕ) → k < length (map (λ (line : List ℕ). now) (filter (λ line. text_eq line name) (x ∷ [])) ++ later) → RightState src v name (turn_of touched name + suc k) (get_or (map (λ (line : List ℕ). now) (filter (λ line. text_eq line name) (x ∷ [])) ++ later) k Undefined)
@@ -140,28 +138,28 @@ module _ (src : Source) (start : Start) (v : Item → Bool) (pieces : (text : Li
       → (k : ℕ) → k < length later → RightState src v name (turn_of touched name + suc k) (get_or later k Undefined)
   no_line touched name later rest k l = moved name (turn_of (touched ++ []) name + suc k) (turn_of touched name + suc k) (get_or later k Undefined) (ap (λ ts. turn_of ts name + suc k) (append-nil touched)) (rest k l)
 
-  -- the states that come behind a directive, where those behind the next come as in the run
+  -- the states that come after a directive, where those after the next come as in the run
   come_before : (touched : List (List ℕ)) (r : Running) (d : Directive) (ds : List Directive) → StatesStand src v (touched ++ touched_at d.what) (step start r d) → StatesCome src start v (touched ++ touched_at d.what) (step start r d) ds
       → StatesCome src start v touched r (d ∷ ds)
   come_before touched r d ds stand come name known = by d.what (stand name known) (come name known)
     where
       by : (w : What) → RightState src v name (turn_of (touched ++ touched_at w) name) ((step start r (record { line = d.line; what = w })).macros name)
-          → ((k : ℕ) → k < length (states_behind start (step start r (record { line = d.line; what = w })) name ds) → RightState src v name (turn_of (touched ++ touched_at w) name + suc k) (get_or (states_behind start (step start r (record { line = d.line; what = w })) name ds) k Undefined))
-          → (k : ℕ) → k < length (states_behind start r name (record { line = d.line; what = w } ∷ ds)) → RightState src v name (turn_of touched name + suc k) (get_or (states_behind start r name (record { line = d.line; what = w } ∷ ds)) k Undefined)
-      by (If c) here rest = no_line touched name (states_behind start (step start r (record { line = d.line; what = If c })) name ds) rest
-      by (Elif c) here rest = no_line touched name (states_behind start (step start r (record { line = d.line; what = Elif c })) name ds) rest
-      by Else here rest = no_line touched name (states_behind start (step start r (record { line = d.line; what = Else })) name ds) rest
-      by Endif here rest = no_line touched name (states_behind start (step start r (record { line = d.line; what = Endif })) name ds) rest
-      by (Define x gives) here rest = one_line touched x name ((step start r (record { line = d.line; what = Define x gives })).macros name) (states_behind start (step start r (record { line = d.line; what = Define x gives })) name ds) here rest
-      by (Undef x) here rest = one_line touched x name ((step start r (record { line = d.line; what = Undef x })).macros name) (states_behind start (step start r (record { line = d.line; what = Undef x })) name ds) here rest
+          → ((k : ℕ) → k < length (states_after start (step start r (record { line = d.line; what = w })) name ds) → RightState src v name (turn_of (touched ++ touched_at w) name + suc k) (get_or (states_after start (step start r (record { line = d.line; what = w })) name ds) k Undefined))
+          → (k : ℕ) → k < length (states_after start r name (record { line = d.line; what = w } ∷ ds)) → RightState src v name (turn_of touched name + suc k) (get_or (states_after start r name (record { line = d.line; what = w } ∷ ds)) k Undefined)
+      by (If c) here rest = no_line touched name (states_after start (step start r (record { line = d.line; what = If c })) name ds) rest
+      by (Elif c) here rest = no_line touched name (states_after start (step start r (record { line = d.line; what = Elif c })) name ds) rest
+      by Else here rest = no_line touched name (states_after start (step start r (record { line = d.line; what = Else })) name ds) rest
+      by Endif here rest = no_line touched name (states_after start (step start r (record { line = d.line; what = Endif })) name ds) rest
+      by (Define x gives) here rest = one_line touched x name ((step start r (record { line = d.line; what = Define x gives })).macros name) (states_after start (step start r (record { line = d.line; what = Define x gives })) name ds) here rest
+      by (Undef x) here rest = one_line touched x name ((step start r (record { line = d.line; what = Undef x })).macros name) (states_after start (step start r (record { line = d.line; what = Undef x })) name ds) here rest
 
   -- an assignment that meets the facts gives the states that come their truths in the run
   pub states_come : (ds : List Directive) (at : Standing) (touched : List (List ℕ)) (r : Running) → Stands src v at touched r → AllKnown src ds → Each (Meets v) (facts_along src touched at ds) → StatesCome src start v touched r ds
   states_come [] at touched r s known h = λ name k n l. absurd (none_below n l)
   states_come (d ∷ ds) at touched r s known h = let t = goes_on at touched r d ds s known h in
-      come_before touched r d ds t.states_are (states_come ds (behind at d.what) (touched ++ touched_at d.what) (step start r d) t
+      come_before touched r d ds t.states_are (states_come ds (after at d.what) (touched ++ touched_at d.what) (step start r d) t
       (known_back src (names_at d.what) (flat_map (λ x. names_at x.what) ds) known)
-      (each_back (Meets v) (fact_at src (turns_behind touched) at d.line d.what) (facts_along src (touched ++ touched_at d.what) (behind at d.what) ds) h))
+      (each_back (Meets v) (fact_at src (turns_after touched) at d.line d.what) (facts_along src (touched ++ touched_at d.what) (after at d.what) ds) h))
 
   -- ---- the other way: an assignment that is as the run meets the facts
 
@@ -169,9 +167,9 @@ module _ (src : Source) (start : Start) (v : Item → Bool) (pieces : (text : Li
   abbrev BlocksCome : Running → List Directive → Type 0
   BlocksCome r ds = (b : ℕ) → v (item.Block src.file b) ≡ get_or (run_from start r ds).blocks b false
 
-  -- the states behind the next directive come as in the run
-  come_behind : (touched : List (List ℕ)) (r : Running) (d : Directive) (ds : List Directive) → StatesCome src start v touched r (d ∷ ds) → StatesCome src start v (touched ++ touched_at d.what) (step start r d) ds
-  come_behind touched r d ds come name known = by d.what (come name known)
+  -- the states after the next directive come as in the run
+  come_after : (touched : List (List ℕ)) (r : Running) (d : Directive) (ds : List Directive) → StatesCome src start v touched r (d ∷ ds) → StatesCome src start v (touched ++ touched_at d.what) (step start r d) ds
+  come_after touched r d ds come name known = by d.what (come name known)
     where
       nothing : (later : List MacroState) → ((k : ℕ) → k < length later → RightState src v name (turn_of touched name + suc k) (get_or later k Undefined))
           → (k : ℕ) → k < length later → RightState src v name (turn_of (touched ++ []) name + suc k) (get_or later k Undefined)
@@ -188,14 +186,14 @@ module _ (src : Source) (start : Start) (v : Item → Bool) (pieces : (text : Li
           on true e rest k l = moved name (turn_of touched name + suc (suc k)) (turn_of (touched ++ x ∷ []) name + suc k) (get_or later k Undefined) (omega arith) (rest (suc k) (omega arith))
           on false e rest k l = moved name (turn_of touched name + suc k) (turn_of (touched ++ x ∷ []) name + suc k) (get_or later k Undefined) (omega arith) (rest k l)
 
-      by : (w : What) → ((k : ℕ) → k < length (states_behind start r name (record { line = d.line; what = w } ∷ ds)) → RightState src v name (turn_of touched name + suc k) (get_or (states_behind start r name (record { line = d.line; what = w } ∷ ds)) k Undefined))
-          → (k : ℕ) → k < length (states_behind start (step start r (record { line = d.line; what = w })) name ds) → RightState src v name (turn_of (touched ++ touched_at w) name + suc k) (get_or (states_behind start (step start r (record { line = d.line; what = w })) name ds) k Undefined)
-      by (If c) rest = nothing (states_behind start (step start r (record { line = d.line; what = If c })) name ds) rest
-      by (Elif c) rest = nothing (states_behind start (step start r (record { line = d.line; what = Elif c })) name ds) rest
-      by Else rest = nothing (states_behind start (step start r (record { line = d.line; what = Else })) name ds) rest
-      by Endif rest = nothing (states_behind start (step start r (record { line = d.line; what = Endif })) name ds) rest
-      by (Define x gives) rest = line x ((step start r (record { line = d.line; what = Define x gives })).macros name) (states_behind start (step start r (record { line = d.line; what = Define x gives })) name ds) rest
-      by (Undef x) rest = line x ((step start r (record { line = d.line; what = Undef x })).macros name) (states_behind start (step start r (record { line = d.line; what = Undef x })) name ds) rest
+      by : (w : What) → ((k : ℕ) → k < length (states_after start r name (record { line = d.line; what = w } ∷ ds)) → RightState src v name (turn_of touched name + suc k) (get_or (states_after start r name (record { line = d.line; what = w } ∷ ds)) k Undefined))
+          → (k : ℕ) → k < length (states_after start (step start r (record { line = d.line; what = w })) name ds) → RightState src v name (turn_of (touched ++ touched_at w) name + suc k) (get_or (states_after start (step start r (record { line = d.line; what = w })) name ds) k Undefined)
+      by (If c) rest = nothing (states_after start (step start r (record { line = d.line; what = If c })) name ds) rest
+      by (Elif c) rest = nothing (states_after start (step start r (record { line = d.line; what = Elif c })) name ds) rest
+      by Else rest = nothing (states_after start (step start r (record { line = d.line; what = Else })) name ds) rest
+      by Endif rest = nothing (states_after start (step start r (record { line = d.line; what = Endif })) name ds) rest
+      by (Define x gives) rest = line x ((step start r (record { line = d.line; what = Define x gives })).macros name) (states_after start (step start r (record { line = d.line; what = Define x gives })) name ds) rest
+      by (Undef x) rest = line x ((step start r (record { line = d.line; what = Undef x })).macros name) (states_after start (step start r (record { line = d.line; what = Undef x })) name ds) rest
 
   -- a block that is begun is as the run has it in the end
   begun : (r : Running) (ds : List Directive) (bs : List Bool) (on : Bool) (next : ℕ) → length bs ≡ next → r.blocks ≡ bs ++ on ∷ [] → BlocksCome r ds → v (item.Block src.file next) ≡ on
@@ -230,7 +228,7 @@ module _ (src : Source) (start : Start) (v : Item → Bool) (pieces : (text : Li
   meets_along (d ∷ ds) at touched r s known blocks states =
       let own = known_front src (names_at d.what) (flat_map (λ x. names_at x.what) ds) known in
       let right = right_there at touched r d.line d.what ds s own blocks states in
-      each_both (Meets v) (fact_at src (turns_behind touched) at d.line d.what) (facts_along src (touched ++ touched_at d.what) (behind at d.what) ds)
+      each_both (Meets v) (fact_at src (turns_after touched) at d.line d.what) (facts_along src (touched ++ touched_at d.what) (after at d.what) ds)
       ((met src start v pieces lines at touched r d.line d.what s own).from right)
-      (meets_along ds (behind at d.what) (touched ++ touched_at d.what) (step start r d) (next_stands src start v at touched r d s right)
-      (known_back src (names_at d.what) (flat_map (λ x. names_at x.what) ds) known) blocks (come_behind touched r d ds states))
+      (meets_along ds (after at d.what) (touched ++ touched_at d.what) (step start r d) (next_stands src start v at touched r d s right)
+      (known_back src (names_at d.what) (flat_map (λ x. names_at x.what) ds) known) blocks (come_after touched r d ds states))

@@ -1,5 +1,5 @@
--- New members are put behind one list after another.
-use Rattle.std.proofs.Common.{◌≡◌, ℕ, ◌+◌, ◌<◌, ◌≤◌, Bool, true, false, not, cond, Option, None, Some, position, arith, append_assoc, List, [], ◌∷◌, ◌++◌, refl, sym, ap, ◌∙◌, length, drop, take, get_or, map}
+-- New members are put after one list after another.
+use Rattle.std.proofs.Common.{◌≡◌, ℕ, ◌+◌, ◌<◌, ◌≤◌, Bool, true, false, not, cond, None, Some, position, arith, append_assoc, List, [], ◌∷◌, ◌++◌, refl, sym, ap, ◌∙◌, length, drop, take, get_or, map}
 use Rattle.std.specs.Prelude.{nat_lt}
 use Rattle.std.specs.List.{flat_map, position_or_len}
 use Rattle.std.proofs.lemmas.Bool.Decides.{nat_tests}
@@ -29,7 +29,7 @@ firsts_map_next eq f seen xs i d h = at_drop_more (λ ys. firsts eq seen (flat_m
 
 -- ---- directives passed one after another
 
--- the macro lines behind one more directive
+-- the macro lines after one more directive
 pub touched_next : (ds : List Directive) (i : ℕ) (d : Directive) → i < length ds → d ≡ get_or ds i d → touched_in (take (i + 1) ds) ≡ touched_in (take i ds) ++ touched_at d.what
 touched_next ds i d h e = ap touched_in (take_more ds i d h) ∙ (flat_map-append (λ (x : Directive). touched_at x.what) (take i ds) (get_or ds i d ∷ [])
     ∙ ap (λ ts. touched_in (take i ds) ++ ts) (append-nil (touched_at (get_or ds i d).what) ∙ ap (λ (x : Directive). touched_at x.what) (sym e)))

@@ -12,9 +12,9 @@ use Rattle.cpp_blocks.specs.Facts.{start_fact, is_block, is_state, states_from}
 use Rattle.cpp_blocks.specs.Gathered.{Gathered, put_at, put_by, put_all, lists_from}
 use Rattle.cpp_blocks.specs.declared.turns.Turns.{Turns}
 use Rattle.cpp_blocks.specs.Counted.{IsCounted}
-use Rattle.cpp_blocks.specs.Formulas.{Source, turns_behind}
+use Rattle.cpp_blocks.specs.Formulas.{Source, turns_after}
 use Rattle.cpp_blocks.specs.Places.{kept_turns}
-use Rattle.cpp_blocks.specs.Steps.{Standing, fact_at, behind, facts_along}
+use Rattle.cpp_blocks.specs.Steps.{Standing, fact_at, after, facts_along}
 use Rattle.cpp_blocks.specs.Turns.{touched_at}
 use Rattle.cpp_blocks.proofs.TurnLaws.{pieces_counted}
 
@@ -44,7 +44,7 @@ same_number n = grind (arith, nat_tests)
 other_number : (m n : ℕ) → m < n → eqb m n ≡ false
 other_number m n h = grind (arith, nat_tests)
 
--- a fact of a name goes behind those of that name
+-- a fact of a name goes after those of that name
 put_in : (file : ℕ) (lines : List Fact) (f : Fact) (n k m owner turn : ℕ) (ss : List StartOf) → f.node ≡ State owner m turn → k + n ≡ m → put_at n f (lists_from file lines k ss) ≡ lists_from file (lines ++ f ∷ []) k ss
 put_in file lines f n k m owner turn [] e h = refl
 put_in file lines f zero k m owner turn (s ∷ ss) e h = λ i. (start_fact file k s ∷ sym (passed (λ x. is_state k x.node) lines f (ap (is_state k) e ∙ (ap (eqb m) at ∙ same_number m))) i)
@@ -61,7 +61,7 @@ put_in file lines f (suc n) k m owner turn (s ∷ ss) e h = λ i. (start_fact fi
         above : (a b : ℕ) → b < a → eqb a b ≡ false
         above a b l = grind (arith, nat_tests)
 
--- the facts gathered behind some directives
+-- the facts gathered after some directives
 abbrev gathered : ℕ → List StartOf → List Fact → List Fact → Gathered
 gathered file ss blocks lines = record { blocks = blocks ++ filter (λ f. is_block f.node) lines; states = lists_from file lines 0 ss }
 
@@ -88,7 +88,7 @@ put_each file ss blocks lines [] = ap (gathered file ss blocks) (sym (append-nil
 put_each file ss blocks lines (f ∷ more) = ap (λ g. put_all g more) (put_one file ss blocks lines f)
     ∙ (put_each file ss blocks (lines ++ f ∷ []) more ∙ ap (gathered file ss blocks) (append_assoc lines (f ∷ []) more))
 
--- the lists of names, one behind another
+-- the lists of names, one after another
 joined : (file : ℕ) (lines : List Fact) (k : ℕ) (ss : List StartOf) → flat_map (λ list. list) (lists_from file lines k ss) ≡ states_from file lines k ss
 joined file lines k [] = refl
 joined file lines k (s ∷ ss) = ap (λ xs. (start_fact file k s ∷ filter (λ f. is_state k f.node) lines) ++ xs) (joined file lines (suc k) ss)
@@ -120,11 +120,11 @@ put_past items (x ∷ ls) (suc i) f h = ap (λ ys. items x ∷ ys) (put_past ite
 
 -- the facts of the next directive, and then those of what is left
 pub facts_next : (g : Gathered) (src : Source) (touched : List (List ℕ)) (at : Standing) (ds : List Directive) (i : ℕ) (d : Directive) → i < length ds → d ≡ get_or ds i d
-    → put_all g (facts_along src touched at (drop i ds)) ≡ put_all (put_all g (fact_at src (turns_behind touched) at d.line d.what)) (facts_along src (touched ++ touched_at d.what) (behind at d.what) (drop (i + 1) ds))
+    → put_all g (facts_along src touched at (drop i ds)) ≡ put_all (put_all g (fact_at src (turns_after touched) at d.line d.what)) (facts_along src (touched ++ touched_at d.what) (after at d.what) (drop (i + 1) ds))
 facts_next g src touched at ds i d h e = at_drop_more (λ ys. put_all g (facts_along src touched at ys)) ds i d h
-    ∙ (put_all-append g (fact_at src (turns_behind touched) at (get_or ds i d).line (get_or ds i d).what) (facts_along src (touched ++ touched_at (get_or ds i d).what) (behind at (get_or ds i d).what) (drop (i + 1) ds))
-    ∙ ap (λ (x : Directive). put_all (put_all g (fact_at src (turns_behind touched) at x.line x.what)) (facts_along src (touched ++ touched_at x.what) (behind at x.what) (drop (i + 1) ds))) (sym e))
+    ∙ (put_all-append g (fact_at src (turns_after touched) at (get_or ds i d).line (get_or ds i d).what) (facts_along src (touched ++ touched_at (get_or ds i d).what) (after at (get_or ds i d).what) (drop (i + 1) ds))
+    ∙ ap (λ (x : Directive). put_all (put_all g (fact_at src (turns_after touched) at x.line x.what)) (facts_along src (touched ++ touched_at x.what) (after at x.what) (drop (i + 1) ds))) (sym e))
 
--- the turns kept are those behind the macro lines passed
-pub turns_kept : (turns : Turns) (touched : List (List ℕ)) → IsCounted turns touched → kept_turns turns ≡ turns_behind touched
+-- the turns kept are those after the macro lines passed
+pub turns_kept : (turns : Turns) (touched : List (List ℕ)) → IsCounted turns touched → kept_turns turns ≡ turns_after touched
 turns_kept turns touched is i = record { name = λ x. is x i; piece = pieces_counted turns touched is i }

@@ -1,19 +1,15 @@
 -- An assignment that stands as a run meets the fact of the next directive exactly where its items are as in the run.
-use Rattle.std.proofs.Common.{◌≡◌, ℕ, ◌+◌, ◌<◌, zero, suc, Bool, true, false, not, ◌&&◌, ◌||◌, cond, List, [], ◌∷◌, ◌++◌, length, map, get_or, refl, sym, ap, ◌∙◌, subst, arith}
+use Rattle.std.proofs.Common.{◌≡◌, ℕ, zero, suc, Bool, true, false, not, ◌&&◌, ◌||◌, cond, List, [], ◌∷◌, ◌++◌, map, refl, sym, ap, ◌∙◌, arith}
 use Rattle.std.specs.List.{All}
-use Rattle.std.proofs.lemmas.Bool.{false≢true}
 use Rattle.ut_logic.specs.declared.item.Item.{Item}
 use Rattle.ut_logic.specs.declared.item.Item.TheVariants as item
 use Rattle.ut_logic.specs.declared.node.Node.{Node}
-use Rattle.ut_logic.specs.declared.facts.Definition.{Definition}
-use Rattle.ut_logic.specs.declared.facts.Fact.{Fact}
 use Rattle.ut_logic.specs.declared.formula.Formula.{Formula}
 use Rattle.ut_logic.specs.declared.formula.Formula.TheVariants.{Yes, Is}
-use Rattle.ut_logic.specs.Fold.{not_of, all_of, any_of}
+use Rattle.ut_logic.specs.Fold.{not_of, all_of}
 use Rattle.ut_logic.specs.Facts.{IsDefined, Meets}
-use Rattle.ut_logic.specs.Truth.{truth, truths, all_true, any_true}
+use Rattle.ut_logic.specs.Truth.{truth, truths, all_true}
 use Rattle.ut_logic.proofs.FoldLaws.{truth-Yes, truth-No, truth-Is, truth-not_of, truth-all_of, truth-any_of}
-use Rattle.cpp_directives.specs.declared.condition.Cond.{Cond}
 use Rattle.cpp_directives.specs.declared.directive.Gives.{Gives}
 use Rattle.cpp_directives.specs.declared.directive.Gives.TheVariants.{Zero, Nonzero, Free}
 use Rattle.cpp_directives.specs.declared.directive.What.{What}
@@ -21,7 +17,7 @@ use Rattle.cpp_directives.specs.declared.directive.What.TheVariants.{If, Elif, E
 use Rattle.cpp_blocks.specs.declared.groups.OpenGroups.{OpenGroups}
 use Rattle.cpp_blocks.specs.declared.state.MacroState.{MacroState}
 use Rattle.cpp_blocks.specs.declared.state.MacroState.TheVariants.{Undefined, DefinedFalse, DefinedTrue}
-use Rattle.cpp_blocks.specs.Formulas.{Source, turns_behind, piece_in, defined_item, true_item, formula_of, states_in}
+use Rattle.cpp_blocks.specs.Formulas.{Source, turns_after, piece_in, defined_item, true_item, formula_of, states_in}
 use Rattle.cpp_blocks.specs.Mentions.{names_at}
 use Rattle.cpp_blocks.specs.Run.{Start, Running, OpenChain, is_defined, is_true, holds, given}
 use Rattle.cpp_blocks.specs.Steps.{Standing, current, group_formula, group_fact, next_group, given_truth, given_items, state_fact, define_fact, undef_fact, fact_at}
@@ -166,10 +162,10 @@ module _ (src : Source) (start : Start) (v : Item → Bool) (pieces : (text : Li
 
   -- the facts of a directive are met exactly where its items are as in the run
   pub met : (at : Standing) (touched : List (List ℕ)) (r : Running) (line : ℕ) (w : What) → Stands src v at touched r → Known src (names_at w)
-      → Same (Each (Meets v) (fact_at src (turns_behind touched) at line w)) (Right src start v at touched r line w)
-  met at touched r line (If c) s known = group_met src v at.next (current at.chains) [] (states_in src (turns_behind touched) c) (formula_of src (turns_behind touched) c) (r.on && holds start r c)
+      → Same (Each (Meets v) (fact_at src (turns_after touched) at line w)) (Right src start v at touched r line w)
+  met at touched r line (If c) s known = group_met src v at.next (current at.chains) [] (states_in src (turns_after touched) c) (formula_of src (turns_after touched) c) (r.on && holds start r c)
       (λ i. sym s.on_is i && truth-formula_of src start v pieces touched r s.touched_is s.states_are c known i)
-  met at touched r line (Elif c) s known = next_met src v at.next at.chains r.chains (states_in src (turns_behind touched) c) (formula_of src (turns_behind touched) c) (holds start r c) s.chains_are
+  met at touched r line (Elif c) s known = next_met src v at.next at.chains r.chains (states_in src (turns_after touched) c) (formula_of src (turns_after touched) c) (holds start r c) s.chains_are
       (truth-formula_of src start v pieces touched r s.touched_is s.states_are c known)
   met at touched r line Else s known = next_met src v at.next at.chains r.chains [] Yes true s.chains_are (truth-Yes v)
   met at touched r line Endif s known = record { to = λ x. tt; from = λ x. tt }

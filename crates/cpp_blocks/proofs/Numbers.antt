@@ -1,5 +1,5 @@
 -- Names have numbers within their list, and the blocks of a source whose chains match are those that it begins.
-use Rattle.std.proofs.Common.{◌≡◌, ℕ, ◌+◌, ◌<◌, ◌≤◌, zero, suc, Bool, true, false, not, ◌&&◌, ◌||◌, cond, List, [], ◌∷◌, ◌++◌, length, map, filter, get_or, refl, sym, ap, ◌∙◌, subst, arith, length-append}
+use Rattle.std.proofs.Common.{◌≡◌, ℕ, ◌+◌, ◌<◌, suc, Bool, true, false, not, ◌&&◌, ◌||◌, cond, List, [], ◌∷◌, ◌++◌, length, get_or, refl, sym, ap, ◌∙◌, arith}
 use Rattle.std.specs.List.{list_any, list_all, flat_map, position_or_len}
 use Rattle.std.proofs.lemmas.Bool.{false≢true}
 use Rattle.std.proofs.lemmas.List.Folds.{list_any-append}
@@ -8,13 +8,13 @@ use Rattle.cpp_directives.specs.declared.directive.Directive.{Directive}
 use Rattle.cpp_directives.specs.declared.directive.What.{What}
 use Rattle.cpp_directives.specs.declared.directive.What.TheVariants.{If, Elif, Else, Endif, Define, Undef}
 use Rattle.cpp_blocks.specs.declared.groups.OpenGroups.{OpenGroups}
-use Rattle.cpp_blocks.specs.Blocks.{innermost, outside, open_behind, parent_at, next_behind, parents_from}
+use Rattle.cpp_blocks.specs.Blocks.{outside, open_after, parent_at, next_after, parents_from}
 use Rattle.cpp_blocks.specs.Formulas.{source_of}
 use Rattle.cpp_blocks.specs.Mentions.{with_new, firsts, names_at}
-use Rattle.cpp_blocks.specs.Steps.{Standing, behind}
+use Rattle.cpp_blocks.specs.Steps.{Standing, after}
 use Rattle.cpp_blocks.specs.Steps as Steps
 use Rattle.cpp_directives.specs.declared.well_formed.Chain.{Chain}
-use Rattle.cpp_directives.specs.WellFormed.{takes_group, with_group, is_inside, may_stand, chains_after, closed, chains_match}
+use Rattle.cpp_directives.specs.WellFormed.{takes_group, with_group, may_stand, chains_after, closed, chains_match}
 use Rattle.cpp_blocks.proofs.Along.{AllKnown, at_end}
 use Rattle.cpp_blocks.proofs.CondTruth.{and_front, and_back}
 
@@ -89,7 +89,7 @@ round_length [] (o ∷ os) h = absurd (omega arith)
 round_length (c ∷ cs) [] h = absurd (omega arith)
 round_length (c ∷ cs) (o ∷ os) h = omega arith
 
--- the next block behind directives whose chains match
+-- the next block after directives whose chains match
 pub next_at_end : (ds : List Directive) (at : Standing) (cs : List Chain) (next : ℕ) (inside : List ℕ) → length at.chains ≡ length cs → chains_match cs ds ≡ true
     → (at_end at ds).next ≡ at.next + length (parents_from next inside ds)
 next_at_end [] at cs next inside h m = omega arith
@@ -98,14 +98,14 @@ next_at_end (d ∷ ds) at cs next inside h m = by d.what (and_front (may_stand c
   where
     by : (w : What) → may_stand cs w ≡ true → chains_match (chains_after cs w) ds ≡ true
         → ((at' : Standing) (cs' : List Chain) (next' : ℕ) (inside' : List ℕ) → length at'.chains ≡ length cs' → chains_match cs' ds ≡ true → (at_end at' ds).next ≡ at'.next + length (parents_from next' inside' ds))
-        → (at_end (behind at w) ds).next ≡ at.next + length (parent_at inside w ++ parents_from (next_behind next w) (open_behind next inside w) ds)
-    by (If c) stand rest go = let e : (at_end (behind at (If c)) ds).next ≡ suc at.next + length (parents_from (suc next) (next ∷ inside) ds) = go (behind at (If c)) (chains_after cs (If c)) (suc next) (next ∷ inside) (ap suc h) rest in omega arith
+        → (at_end (after at w) ds).next ≡ at.next + length (parent_at inside w ++ parents_from (next_after next w) (open_after next inside w) ds)
+    by (If c) stand rest go = let e : (at_end (after at (If c)) ds).next ≡ suc at.next + length (parents_from (suc next) (next ∷ inside) ds) = go (after at (If c)) (chains_after cs (If c)) (suc next) (next ∷ inside) (ap suc h) rest in omega arith
     by (Elif c) stand rest go = let s = some_chain at cs at.chains h stand in
         let n = s.0 in
-        let e = go (behind at (Elif c)) (chains_after cs (Elif c)) (suc next) (next ∷ outside inside) (s.1 false) rest in omega arith
+        let e = go (after at (Elif c)) (chains_after cs (Elif c)) (suc next) (next ∷ outside inside) (s.1 false) rest in omega arith
     by Else stand rest go = let s = some_chain at cs at.chains h stand in
         let n = s.0 in
-        let e = go (behind at Else) (chains_after cs Else) (suc next) (next ∷ outside inside) (s.1 true) rest in omega arith
-    by Endif stand rest go = go (behind at Endif) (chains_after cs Endif) next (outside inside) (round_length cs at.chains h) rest
+        let e = go (after at Else) (chains_after cs Else) (suc next) (next ∷ outside inside) (s.1 true) rest in omega arith
+    by Endif stand rest go = go (after at Endif) (chains_after cs Endif) next (outside inside) (round_length cs at.chains h) rest
     by (Define x gives) stand rest go = go at cs next inside h rest
     by (Undef x) stand rest go = go at cs next inside h rest

@@ -1,9 +1,8 @@
 -- The run is the one solution of the facts.
-use Rattle.std.proofs.Common.{◌≡◌, ℕ, ◌+◌, ◌<◌, ◌≤◌, zero, suc, Bool, true, false, not, ◌&&◌, ◌||◌, cond, List, [], ◌∷◌, ◌++◌, length, filter, get_or, slice_get, Option, None, Some, eqb, refl, sym, ap, ◌∙◌, subst, arith}
-use Rattle.std.specs.List.{All, list_any, list_all}
+use Rattle.std.proofs.Common.{◌≡◌, ℕ, ◌+◌, ◌<◌, ◌≤◌, zero, suc, Bool, true, false, not, ◌&&◌, ◌||◌, cond, List, [], ◌∷◌, ◌++◌, length, filter, get_or, slice_get, Some, eqb, refl, sym, ap, ◌∙◌, subst, arith}
+use Rattle.std.specs.List.{list_all}
 use Rattle.std.proofs.lemmas.Bool.{false≢true}
 use Rattle.std.proofs.lemmas.Bool.Decides.{nat_tests}
-use Rattle.std.proofs.lemmas.Option.{slice_get-get_or}
 use Rattle.ut_logic.specs.declared.item.Item.{Item}
 use Rattle.ut_logic.specs.declared.item.Item.TheVariants as item
 use Rattle.ut_logic.specs.declared.formula.Formula.{Formula}
@@ -23,13 +22,13 @@ use Rattle.cpp_blocks.specs.declared.state.MacroState.{MacroState}
 use Rattle.cpp_blocks.specs.declared.state.MacroState.TheVariants.{Undefined}
 use Rattle.cpp_blocks.specs.Blocks.{count_of}
 use Rattle.cpp_blocks.specs.Facts.{file_fact, start_fact, start_holds, is_free, is_block, states_from, at_first, facts_of, is_of_run, is_outside, Implies, AreStarts}
-use Rattle.cpp_blocks.specs.Formulas.{Source, source_of, name_in, piece_in, defined_item, true_item}
+use Rattle.cpp_blocks.specs.Formulas.{Source, source_of, name_in}
 use Rattle.cpp_blocks.specs.Mentions.{names_of}
-use Rattle.cpp_blocks.specs.Run.{Start, is_defined, is_true, is_on_in, run_of}
-use Rattle.cpp_blocks.specs.Solution.{state_of, start_state, start_of, beginning, states_behind, states_of, IsRun, is_own, AreStates, IsTheRun}
+use Rattle.cpp_blocks.specs.Run.{beginning, Start, is_defined, is_true, is_on_in}
+use Rattle.cpp_blocks.specs.Solution.{state_of, start_state, start_of, states_after, states_of, IsRun, is_own, AreStates, IsTheRun}
 use Rattle.cpp_blocks.specs.Steps.{facts_along}
 use Rattle.cpp_directives.specs.WellFormed.{IsWellFormed}
-use Rattle.cpp_blocks.proofs.Along.{AllKnown, each_front, each_back, each_both, at_end, run_keeps, StatesCome, stands_at_end, states_come, meets_along}
+use Rattle.cpp_blocks.proofs.Along.{each_front, each_back, each_both, at_end, run_keeps, StatesCome, stands_at_end, states_come, meets_along}
 use Rattle.cpp_blocks.proofs.CondTruth.{is_known, and_front, and_back}
 use Rattle.cpp_blocks.proofs.Meeting.{Each, each_of, all_of_each}
 use Rattle.cpp_blocks.proofs.Numbers.{place_within, place_is, all_known, next_at_end}
@@ -172,7 +171,7 @@ the_one file ds starts built formed count given v meets = record { blocks = bloc
         → RightState (source_of file ds) v name turn (get_or (states_of (start_of (source_of file ds) starts built v) ds name) turn Undefined)
     at_turn name known zero l = started name known
     at_turn name known (suc k) l = let at : 0 + suc k ≡ suc k = omega arith in
-        subst (λ t. RightState (source_of file ds) v name t (get_or (states_behind (start_of (source_of file ds) starts built v) (beginning (start_of (source_of file ds) starts built v)) name ds) k Undefined)) at (come name known k (omega arith))
+        subst (λ t. RightState (source_of file ds) v name t (get_or (states_after (start_of (source_of file ds) starts built v) (beginning (start_of (source_of file ds) starts built v)) name ds) k Undefined)) at (come name known k (omega arith))
 
 -- ---- one solution at least
 
@@ -181,7 +180,7 @@ same_number n = grind (arith, nat_tests)
 
 -- the states of the name with this number in the run from this start
 abbrev numbered : ℕ → List Directive → List StartOf → Start → (Item → Bool) → ℕ → List MacroState
-numbered file ds starts start v k = start_state v (slice_get starts k) ∷ states_behind start (beginning start) (get_or (names_of ds) k []) ds
+numbered file ds starts start v k = start_state v (slice_get starts k) ∷ states_after start (beginning start) (get_or (names_of ds) k []) ds
 
 -- the assignment whose blocks and states of this file are those of the run
 abbrev solution : ℕ → List Directive → List StartOf → Start → (Item → Bool) → Item → Bool
@@ -240,7 +239,7 @@ start_met file ds starts start v k s e od ot chosen =
 -- the states of a known name are those of its number
 named : (file : ℕ) (ds : List Directive) (starts : List StartOf) (built : BuiltOf) (v : Item → Bool) (name : List ℕ) → is_known (source_of file ds) name ≡ true
     → numbered file ds starts (start_of (source_of file ds) starts built v) v (name_in (source_of file ds) name) ≡ states_of (start_of (source_of file ds) starts built v) ds name
-named file ds starts built v name known = ap (λ n. start_state v (slice_get starts (name_in (source_of file ds) name)) ∷ states_behind (start_of (source_of file ds) starts built v) (beginning (start_of (source_of file ds) starts built v)) n ds) (place_is name (names_of ds) known)
+named file ds starts built v name known = ap (λ n. start_state v (slice_get starts (name_in (source_of file ds) name)) ∷ states_after (start_of (source_of file ds) starts built v) (beginning (start_of (source_of file ds) starts built v)) n ds) (place_is name (names_of ds) known)
 
 -- so each state of it is that of the run
 right_state : (file : ℕ) (ds : List Directive) (starts : List StartOf) (built : BuiltOf) (v : Item → Bool) (name : List ℕ) (turn : ℕ) → is_known (source_of file ds) name ≡ true
@@ -272,9 +271,9 @@ the_some file ds starts built given outside v chosen =
     at_zero = on_block file ds starts (start_of (source_of file ds) starts built v) v 0 ∙ run_keeps (start_of (source_of file ds) starts built v) ds (beginning (start_of (source_of file ds) starts built v)) 0 (omega arith)
 
     later : (name : List ℕ) → is_known (source_of file ds) name ≡ true → (k : ℕ)
-        → RightState (source_of file ds) (solution file ds starts (start_of (source_of file ds) starts built v) v) name (0 + suc k) (get_or (states_behind (start_of (source_of file ds) starts built v) (beginning (start_of (source_of file ds) starts built v)) name ds) k Undefined)
+        → RightState (source_of file ds) (solution file ds starts (start_of (source_of file ds) starts built v) v) name (0 + suc k) (get_or (states_after (start_of (source_of file ds) starts built v) (beginning (start_of (source_of file ds) starts built v)) name ds) k Undefined)
     later name known k = let at : suc k ≡ 0 + suc k = omega arith in
-        subst (λ t. RightState (source_of file ds) (solution file ds starts (start_of (source_of file ds) starts built v) v) name t (get_or (states_behind (start_of (source_of file ds) starts built v) (beginning (start_of (source_of file ds) starts built v)) name ds) k Undefined)) at
+        subst (λ t. RightState (source_of file ds) (solution file ds starts (start_of (source_of file ds) starts built v) v) name t (get_or (states_after (start_of (source_of file ds) starts built v) (beginning (start_of (source_of file ds) starts built v)) name ds) k Undefined)) at
         (right_state file ds starts built v name (suc k) known)
 
 -- the facts of a source have exactly one solution, the run

@@ -1,5 +1,5 @@
 -- The facts of a source, sorted by their nodes, are those of its directives with those of the file and the starts.
-use Rattle.std.proofs.Common.{◌≡◌, ℕ, ◌+◌, ◌<◌, ◌≤◌, zero, suc, Bool, true, false, cond, List, [], ◌∷◌, ◌++◌, length, filter, slice_get, Option, None, Some, eqb, refl, sym, ap, ◌∙◌, subst, arith, ◌⊎◌, inl, inr}
+use Rattle.std.proofs.Common.{◌≡◌, ℕ, ◌+◌, ◌<◌, ◌≤◌, zero, suc, Bool, true, false, cond, List, [], ◌∷◌, ◌++◌, length, filter, slice_get, Some, eqb, refl, sym, ◌∙◌, subst, arith, ◌⊎◌, inl, inr}
 use Rattle.std.specs.List.{flat_map}
 use Rattle.std.proofs.lemmas.Bool.{false≢true}
 use Rattle.std.proofs.lemmas.Bool.Decides.{nat_tests}
@@ -12,9 +12,9 @@ use Rattle.cpp_directives.specs.declared.directive.What.TheVariants.{If, Elif, E
 use Rattle.cpp_blocks.specs.declared.groups.OpenGroups.{OpenGroups}
 use Rattle.cpp_blocks.specs.declared.starts.StartOf.{StartOf}
 use Rattle.cpp_blocks.specs.Facts.{start_fact, is_block, is_state, states_from}
-use Rattle.cpp_blocks.specs.Formulas.{Source, turns_behind}
+use Rattle.cpp_blocks.specs.Formulas.{Source, turns_after}
 use Rattle.cpp_blocks.specs.Mentions.{names_at}
-use Rattle.cpp_blocks.specs.Steps.{Standing, next_group, fact_at, behind, facts_along}
+use Rattle.cpp_blocks.specs.Steps.{Standing, next_group, fact_at, after, facts_along}
 use Rattle.cpp_blocks.specs.Turns.{touched_at}
 use Rattle.cpp_blocks.proofs.Along.{AllKnown, each_front, each_back, each_both}
 use Rattle.cpp_blocks.proofs.CondTruth.{is_known, Known, known_front, known_back, and_front}
@@ -32,7 +32,7 @@ group_of : (src : Source) (next : ℕ) (cs : List OpenGroups) (states : List Nod
 group_of src next [] states f = tt
 group_of src next (c ∷ cs) states f = (inl refl, tt)
 
-fact_of : (src : Source) (touched : List (List ℕ)) (at : Standing) (line : ℕ) (w : What) → Known src (names_at w) → Each (IsOf (length src.names)) (fact_at src (turns_behind touched) at line w)
+fact_of : (src : Source) (touched : List (List ℕ)) (at : Standing) (line : ℕ) (w : What) → Known src (names_at w) → Each (IsOf (length src.names)) (fact_at src (turns_after touched) at line w)
 fact_of src touched at line (If c) known = (inl refl, tt)
 fact_of src touched at line (Elif c) known = group_of src at.next at.chains _ _
 fact_of src touched at line Else known = group_of src at.next at.chains _ _
@@ -43,9 +43,9 @@ fact_of src touched at line (Undef x) known = (inr (_, place_within _ src.names 
 -- each fact of the directives is one of them
 pub facts_of_kind : (src : Source) (ds : List Directive) (touched : List (List ℕ)) (at : Standing) → AllKnown src ds → Each (IsOf (length src.names)) (facts_along src touched at ds)
 facts_of_kind src [] touched at known = tt
-facts_of_kind src (d ∷ ds) touched at known = each_both (IsOf (length src.names)) (fact_at src (turns_behind touched) at d.line d.what) (facts_along src (touched ++ touched_at d.what) (behind at d.what) ds)
+facts_of_kind src (d ∷ ds) touched at known = each_both (IsOf (length src.names)) (fact_at src (turns_after touched) at d.line d.what) (facts_along src (touched ++ touched_at d.what) (after at d.what) ds)
     (fact_of src touched at d.line d.what (known_front src (names_at d.what) (flat_map (λ x. names_at x.what) ds) known))
-    (facts_of_kind src ds (touched ++ touched_at d.what) (behind at d.what) (known_back src (names_at d.what) (flat_map (λ x. names_at x.what) ds) known))
+    (facts_of_kind src ds (touched ++ touched_at d.what) (after at d.what) (known_back src (names_at d.what) (flat_map (λ x. names_at x.what) ds) known))
 
 -- ---- parts of a list
 

@@ -1,12 +1,12 @@
 -- Where an assignment stands as a run does, and what the items of one directive are to be for it to go on so.
-use Rattle.std.proofs.Common.{◌≡◌, ℕ, ◌+◌, ◌<◌, ◌≤◌, zero, suc, Bool, true, false, not, ◌&&◌, ◌||◌, cond, List, [], ◌∷◌, ◌++◌, length, map, get_or, refl, sym, ap, ◌∙◌, subst, arith, length-append, ◌⊎◌, inl, inr}
+use Rattle.std.proofs.Common.{◌≡◌, ℕ, ◌<◌, ◌≤◌, suc, Bool, true, false, not, ◌&&◌, ◌||◌, cond, List, [], ◌∷◌, ◌++◌, length, map, get_or, refl, sym, ap, ◌∙◌, subst, arith, length-append, ◌⊎◌, inl, inr}
 use Rattle.std.proofs.Math.ListN.{get_or-append}
 use Rattle.std.proofs.Math.Seq.{get_or-append_seam}
-use Rattle.std.proofs.lemmas.Bool.{cases_lt, false≢true}
+use Rattle.std.proofs.lemmas.Bool.{cases_lt}
 use Rattle.std.proofs.lemmas.List.{append-nil}
 use Rattle.ut_logic.specs.declared.item.Item.{Item}
 use Rattle.ut_logic.specs.declared.item.Item.TheVariants as item
-use Rattle.ut_text.specs.Text.{text_eq, text_equiv, text_eq-exact}
+use Rattle.ut_text.specs.Text.{text_eq, text_eq-exact}
 use Rattle.ut_logic.specs.Truth.{any_true}
 use Rattle.cpp_directives.specs.declared.directive.Directive.{Directive}
 use Rattle.cpp_directives.specs.declared.directive.What.{What}
@@ -16,10 +16,10 @@ use Rattle.cpp_blocks.specs.declared.state.MacroState.{MacroState}
 use Rattle.cpp_blocks.specs.declared.state.MacroState.TheVariants.{Undefined}
 use Rattle.cpp_blocks.specs.Formulas.{Source, defined_item, true_item}
 use Rattle.cpp_blocks.specs.Run.{Start, Running, OpenChain, is_defined, is_true, holds, opened, turned, closed, sets, given, step}
-use Rattle.cpp_blocks.specs.Steps.{Standing, current, behind}
+use Rattle.cpp_blocks.specs.Steps.{Standing, current, after}
 use Rattle.cpp_blocks.specs.Steps as Steps
 use Rattle.cpp_blocks.specs.Turns.{turn_of, touched_at}
-use Rattle.cpp_blocks.proofs.CondTruth.{is_known, StatesStand}
+use Rattle.cpp_blocks.proofs.CondTruth.{StatesStand}
 use Rattle.cpp_blocks.proofs.TurnLaws.{one_more}
 
 -- whether some one of the groups is on
@@ -47,7 +47,7 @@ abbrev pub RightGroup : Source → (Item → Bool) → ℕ → List OpenGroups �
 RightGroup src v next (c ∷ cs) (o ∷ os) holds = v (item.Block src.file next) ≡ (o.around && (not o.taken && holds))
 RightGroup src v next cs os holds = Unit {0}
 
--- the state behind a macro line is that of the run
+-- the state after a macro line is that of the run
 abbrev pub RightState : Source → (Item → Bool) → List ℕ → ℕ → MacroState → Type 0
 RightState src v name turn state = (v (defined_item src name turn) ≡ is_defined state) × (v (true_item src name turn) ≡ is_true state)
 
@@ -192,12 +192,12 @@ module _ (src : Source) (start : Start) (v : Item → Bool) where
   same_touched : (at : Standing) (touched : List (List ℕ)) (r : Running) → Stands src v at touched r → Stands src v at (touched ++ []) r
   same_touched at touched r s = subst (λ ts. Stands src v at ts r) (sym (append-nil touched)) s
 
-  -- where the items of a directive are as in the run, the assignment stands as the run behind it
+  -- where the items of a directive are as in the run, the assignment stands as the run after it
   pub next_stands : (at : Standing) (touched : List (List ℕ)) (r : Running) (d : Directive) → Stands src v at touched r → Right src start v at touched r d.line d.what
-      → Stands src v (behind at d.what) (touched ++ touched_at d.what) (step start r d)
+      → Stands src v (after at d.what) (touched ++ touched_at d.what) (step start r d)
   next_stands at touched r d s right = by d.what right
     where
-      by : (w : What) → Right src start v at touched r d.line w → Stands src v (behind at w) (touched ++ touched_at w) (step start r (record { line = d.line; what = w }))
+      by : (w : What) → Right src start v at touched r d.line w → Stands src v (after at w) (touched ++ touched_at w) (step start r (record { line = d.line; what = w }))
       by (If c) right = same_touched _ touched _ (open_stands at touched r (holds start r c) s right)
       by (Elif c) right = same_touched _ touched _ (turn_stands at touched r at.chains r.chains (holds start r c) s s.chains_are refl refl right)
       by Else right = same_touched _ touched _ (turn_stands at touched r at.chains r.chains true s s.chains_are refl refl right)

@@ -1,11 +1,11 @@
 -- Free starts are as what is handed in is to be.
-use Rattle.std.proofs.Common.{◌≡◌, ℕ, ◌+◌, zero, suc, Bool, true, false, not, ◌&&◌, List, [], ◌∷◌, ◌++◌, length, eqb, refl, sym, ap, ◌∙◌, subst, rules, arith}
+use Rattle.std.proofs.Common.{◌≡◌, ℕ, ◌+◌, suc, true, not, ◌&&◌, List, [], ◌∷◌, ◌++◌, length, eqb, refl, sym, ap, ◌∙◌, subst, rules, arith}
 use Rattle.std.specs.List.{list_all}
 use Rattle.std.proofs.lemmas.Bool.{false≢true}
 use Rattle.std.proofs.lemmas.Bool.Decides.{nat_tests}
 use Rattle.ut_logic.specs.declared.item.Item.{Item}
 use Rattle.ut_logic.specs.declared.item.Item.TheVariants.{StartD, StartT}
-use Rattle.ut_logic.specs.declared.formula.Formula.{Formula, out-Formula}
+use Rattle.ut_logic.specs.declared.formula.Formula.{out-Formula}
 use Rattle.ut_logic.specs.declared.formula.Formula.TheOpen.{Formula-F}
 use Rattle.ut_logic.specs.declared.formula.Formula.TheVariants.{Is}
 use Rattle.ut_logic.specs.declared.formula.Formula.TheViews.{the_lemmas}

@@ -1,15 +1,14 @@
 -- The turns kept by name stay those of the macro lines passed, and the sum over a piece's distinct names
 -- is the number of macro lines that touch one of them.
-use Rattle.std.proofs.Common.{◌≡◌, ℕ, ◌+◌, zero, suc, Bool, true, false, not, ◌&&◌, ◌||◌, cond, List, [], ◌∷◌, ◌++◌, length, filter, refl, sym, ap, ◌∙◌, subst, arith, length-append}
+use Rattle.std.proofs.Common.{◌≡◌, ℕ, ◌+◌, suc, Bool, true, false, ◌||◌, cond, List, [], ◌∷◌, ◌++◌, length, filter, refl, sym, ap, ◌∙◌, arith}
 use Rattle.std.specs.List.{list_any, sum_by}
 use Rattle.std.proofs.lemmas.Bool.{false≢true}
-use Rattle.std.proofs.lemmas.Grind.{common_steps}
 use Rattle.std.proofs.lemmas.List.Folds.{list_any-append}
 use Rattle.std.proofs.lemmas.List.Sums.{sum_by-cons, sum_by_push}
 use Rattle.ut_text.specs.Text.{text_eq, text_equiv}
 use Rattle.cpp_blocks.specs.declared.turns.Turns.{Turns}
 use Rattle.cpp_blocks.specs.Counted.{turn_in, IsCounted, piece_turn}
-use Rattle.cpp_blocks.specs.Mentions.{with_new, firsts}
+use Rattle.cpp_blocks.specs.Mentions.{firsts}
 use Rattle.cpp_blocks.specs.Pieces.{names_of_piece}
 use Rattle.cpp_blocks.specs.Run.{touches}
 use Rattle.cpp_blocks.specs.Turns.{turn_of}
@@ -73,10 +72,10 @@ hit_once line seen (x ∷ more) h = by (list_any (text_eq x) seen) refl (hit_onc
     inside : list_any (text_eq x) seen ≡ true → text_eq line x ≡ true → list_any (text_eq line) seen ≡ true
     inside e q = ap (λ f. list_any f seen) (λ i y. text_equiv.congr line x y q i) ∙ e
 
-    behind : (s a m : Bool) → (a ≡ true → s ≡ false) → ((s || (a || false)) || m) ≡ (s || (a || m))
-    behind true a m f = refl
-    behind false true m f = refl
-    behind false false m f = refl
+    after : (s a m : Bool) → (a ≡ true → s ≡ false) → ((s || (a || false)) || m) ≡ (s || (a || m))
+    after true a m f = refl
+    after false true m f = refl
+    after false false m f = refl
 
     outside : list_any (text_eq x) seen ≡ false → text_eq line x ≡ true → list_any (text_eq line) seen ≡ false
     outside e q = ap (λ f. list_any f seen) (λ i y. text_equiv.congr line x y q i) ∙ e
@@ -94,9 +93,9 @@ hit_once line seen (x ∷ more) h = by (list_any (text_eq x) seen) refl (hit_onc
     by true e there new = there ∙ ap one_if (known (list_any (text_eq line) seen) (text_eq line x) (list_any (text_eq line) more) (inside e))
     by false e there new = new
         (sum_by_push (λ y. one_if (text_eq line y)) seen x ∙ (ap (λ k. k + one_if (text_eq line x)) h ∙ (added (list_any (text_eq line) seen) (text_eq line x) (outside e) ∙ ap one_if (sym (list_any-append (text_eq line) seen (x ∷ []))))))
-        ∙ ap one_if (ap (λ b. b || list_any (text_eq line) more) (list_any-append (text_eq line) seen (x ∷ [])) ∙ behind (list_any (text_eq line) seen) (text_eq line x) (list_any (text_eq line) more) (outside e))
+        ∙ ap one_if (ap (λ b. b || list_any (text_eq line) more) (list_any-append (text_eq line) seen (x ∷ [])) ∙ after (list_any (text_eq line) seen) (text_eq line x) (list_any (text_eq line) more) (outside e))
 
--- the turns behind one more line, at its front
+-- the turns after one more line, at its front
 front : (t : List ℕ) (ts : List (List ℕ)) (x : List ℕ) → turn_of (t ∷ ts) x ≡ one_if (text_eq t x) + turn_of ts x
 front t ts x = by (text_eq t x)
   where

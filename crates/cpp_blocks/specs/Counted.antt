@@ -2,6 +2,7 @@
 use Rattle.std.specs.Prelude.{◌≡◌, ℕ, true, List, [], unwrap_or}
 use Rattle.std.specs.List.{sum_by, list_all}
 use Rattle.indexmap.specs.IndexMap.{get}
+use Rattle.ut_text.specs.Bytes.{Bytes}
 use Rattle.ut_text.specs.Text.{text_eq}
 use Rattle.ut_text.specs.ByteClasses.{is_name_byte}
 use Rattle.cpp_blocks.specs.declared.turns.Turns.{Turns}
@@ -12,15 +13,15 @@ use Rattle.cpp_blocks.specs.Mentions.{firsts}
 use Rattle.cpp_blocks.specs.Turns.{turn_of}
 
 -- the turn that is kept for a name
-abbrev pub turn_in : Turns → List ℕ → ℕ
+abbrev pub turn_in : Turns → Bytes → ℕ
 turn_in turns name = unwrap_or (get text_eq turns.counts name) 0
 
--- the turns kept are those behind these macro lines
-abbrev pub IsCounted : Turns → List (List ℕ) → Type 0
-IsCounted turns touched = (name : List ℕ) → turn_in turns name ≡ turn_of touched name
+-- the turns kept are those after these macro lines
+abbrev pub IsCounted : Turns → List Bytes → Type 0
+IsCounted turns touched = (name : Bytes) → turn_in turns name ≡ turn_of touched name
 
 -- the sum of the turns of a piece's names
-abbrev pub piece_turn : Turns → List ℕ → ℕ
+abbrev pub piece_turn : Turns → Bytes → ℕ
 piece_turn turns text = sum_by (turn_in turns) (firsts text_eq [] (names_of_piece text))
 
 -- where a scan of a piece's text stands

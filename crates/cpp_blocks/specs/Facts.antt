@@ -1,6 +1,6 @@
 -- The facts of a source: first those of its blocks, from the file on, then those of its macros, each at the
--- start and behind each of its lines. This project's rule.
-use Rattle.std.specs.Prelude.{◌≡◌, ℕ, suc, ◌==◌, ◌&&◌, Bool, true, false, List, [], ◌∷◌, ◌++◌, filter, if◌then◌else◌, length, not}
+-- start and after each of its lines. This project's rule.
+use Rattle.std.specs.Prelude.{◌≡◌, ℕ, suc, ◌==◌, ◌&&◌, Bool, true, false, List, [], ◌∷◌, ◌++◌, filter, if◌then◌else◌, not}
 use Rattle.std.specs.List.{list_all}
 use Rattle.ut_logic.specs.declared.item.Item.{Item}
 use Rattle.ut_logic.specs.declared.item.Item.TheVariants as item
@@ -8,14 +8,13 @@ use Rattle.ut_logic.specs.declared.node.Node.{Node}
 use Rattle.ut_logic.specs.declared.node.Node.TheVariants as node
 use Rattle.ut_logic.specs.declared.formula.Formula.{Formula, out-Formula}
 use Rattle.ut_logic.specs.declared.formula.Formula.TheOpen.{Formula-F}
-use Rattle.ut_logic.specs.declared.facts.Definition.{Definition}
 use Rattle.ut_logic.specs.declared.facts.Fact.{Fact}
 use Rattle.ut_logic.specs.Fold.{not_of, any_of}
 use Rattle.ut_logic.specs.Truth.{truth, mentioned}
 use Rattle.cpp_directives.specs.declared.directive.Directive.{Directive}
 use Rattle.cpp_blocks.specs.declared.starts.StartOf.{StartOf}
 use Rattle.cpp_blocks.specs.declared.starts.BuiltOf.{BuiltOf}
-use Rattle.cpp_blocks.specs.Formulas.{Source, source_of}
+use Rattle.cpp_blocks.specs.Formulas.{source_of}
 use Rattle.cpp_blocks.specs.Steps.{Standing, facts_along}
 
 -- the file itself

@@ -1,8 +1,9 @@
 -- The formulas of conditions: `defined X` is whether X is defined, and a name whether it is defined and
--- true, behind the macro lines of that name so far; an opaque piece is an item of its own.
+-- true, after the macro lines of that name so far; an opaque piece is an item of its own.
 -- Rule: ISO C, "Conditional inclusion"; the items are this project's rule.
-use Rattle.std.specs.Prelude.{ℕ, Bool, List, [], ◌∷◌, if◌then◌else◌, map}
+use Rattle.std.specs.Prelude.{ℕ, List, if◌then◌else◌, map}
 use Rattle.std.specs.List.{position_or_len}
+use Rattle.ut_text.specs.Bytes.{Bytes}
 use Rattle.ut_text.specs.Text.{text_eq}
 use Rattle.ut_logic.specs.declared.item.Item.{Item}
 use Rattle.ut_logic.specs.declared.item.Item.TheVariants as item
@@ -24,7 +25,7 @@ use Rattle.cpp_blocks.specs.Run.{touches}
 -- by what the items of a source are numbered: the number of its file, its macro names and its pieces
 pub record Source : Type 0 where
   pub file : ℕ
-  pub names : List (List ℕ)
+  pub names : List Bytes
   pub pieces : List PieceOf
 
 -- the source of these directives
@@ -32,30 +33,30 @@ abbrev pub source_of : ℕ → List Directive → Source
 source_of file ds = record { file = file; names = names_of ds; pieces = pieces_of ds }
 
 -- the number of a macro name
-abbrev pub name_in : Source → List ℕ → ℕ
+abbrev pub name_in : Source → Bytes → ℕ
 name_in src name = position_or_len (text_eq name) src.names
 
 -- the number of a piece with this text and this number of earlier macro lines that touch it
-abbrev pub piece_in : Source → List ℕ → ℕ → ℕ
+abbrev pub piece_in : Source → Bytes → ℕ → ℕ
 piece_in src text turn = position_or_len (piece_eq (record { text = text; turn = turn })) src.pieces
 
 -- how many macro lines of each name, and how many that touch each piece, stand before a place
 pub record Turn : Type 0 where
-  pub name : List ℕ → ℕ
-  pub piece : List ℕ → ℕ
+  pub name : Bytes → ℕ
+  pub piece : Bytes → ℕ
 
--- behind these macro lines
-abbrev pub turns_behind : List (List ℕ) → Turn
-turns_behind touched = record { name = turn_of touched; piece = touches touched }
+-- after these macro lines
+abbrev pub turns_after : List Bytes → Turn
+turns_after touched = record { name = turn_of touched; piece = touches touched }
 
--- a macro is defined, or defined and true, behind so many of its lines; and the node of that state
-abbrev pub defined_item : Source → List ℕ → ℕ → Item
+-- a macro is defined, or defined and true, after so many of its lines; and the node of that state
+abbrev pub defined_item : Source → Bytes → ℕ → Item
 defined_item src name turn = item.StateD src.file (name_in src name) turn
 
-abbrev pub true_item : Source → List ℕ → ℕ → Item
+abbrev pub true_item : Source → Bytes → ℕ → Item
 true_item src name turn = item.StateT src.file (name_in src name) turn
 
-abbrev pub state_node : Source → List ℕ → ℕ → Node
+abbrev pub state_node : Source → Bytes → ℕ → Node
 state_node src name turn = node.State src.file (name_in src name) turn
 
 -- one layer of a condition, with the formula of each inner one in its place

@@ -12,7 +12,7 @@ pub record Gathered : Type 0 where
   pub blocks : List Fact
   pub states : List (List Fact)
 
--- the lists, with the fact behind those of the list at this place
+-- the lists, with one more fact in the list at this place
 abbrev pub put_at : ℕ → Fact → List (List Fact) → List (List Fact)
 put_at n fact [] = []
 put_at zero fact (list ∷ lists) = (list ++ fact ∷ []) ∷ lists

@@ -6,7 +6,7 @@ use Rattle.cpp_directives.specs.declared.directive.What.TheVariants.{If, Elif, E
 use Rattle.cpp_blocks.specs.Blocks.{innermost, outside}
 
 -- the next block, the open blocks from the innermost, the parents and opening places of the blocks so far,
--- and the innermost open block behind each directive
+-- and the innermost open block after each directive
 pub record Nested : Type 0 where
   pub next : ℕ
   pub inside : List ℕ

@@ -5,23 +5,25 @@ use Rattle.std.specs.Prelude.{ℕ, suc, ◌-◌, nat_le, List, [], ◌∷◌, �
 use Rattle.cpp_directives.specs.declared.directive.Directive.{Directive}
 use Rattle.cpp_directives.specs.declared.directive.What.{What}
 use Rattle.cpp_directives.specs.declared.directive.What.TheVariants.{If, Elif, Else, Endif, Define, Undef}
-use Rattle.cpp_blocks.specs.Blocks.{innermost, open_behind, next_behind}
+use Rattle.cpp_blocks.specs.Blocks.{innermost, open_after, next_after}
 
--- the open blocks behind directives, innermost first
-abbrev pub inside_behind : ℕ → List ℕ → List Directive → List ℕ
-inside_behind next inside [] = inside
-inside_behind next inside (d ∷ ds) = inside_behind (next_behind next d.what) (open_behind next inside d.what) ds
+-- the open blocks after directives, innermost first
+abbrev pub inside_after : ℕ → List ℕ → List Directive → List ℕ
+inside_after next inside [] = inside
+inside_after next inside (d ∷ ds) = inside_after (next_after next d.what) (open_after next inside d.what) ds
 
--- the innermost block that has a line: the innermost one open behind the directives up to that line
+-- the innermost block that has a line: the innermost one open after the directives up to that line
 abbrev pub block_at : List Directive → ℕ → ℕ
-block_at ds line = innermost (inside_behind 1 [] (filter (λ d. nat_le d.line line) ds))
+block_at ds line = innermost (inside_after 1 [] (filter (λ d. nat_le d.line line) ds))
 
 -- the place of a directive that begins a block
 abbrev pub opener_at : ℕ → What → List ℕ
 opener_at place (If cond) = place ∷ []
 opener_at place (Elif cond) = place ∷ []
 opener_at place Else = place ∷ []
-opener_at place what = []
+opener_at place Endif = []
+opener_at place (Define name gives) = []
+opener_at place (Undef name) = []
 
 -- the places of the directives that begin blocks, where the first directive stands at this place
 abbrev pub openers_from : ℕ → List Directive → List ℕ

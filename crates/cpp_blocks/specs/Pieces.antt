@@ -8,7 +8,7 @@ use Rattle.ut_text.specs.ByteClasses.{begins_names, is_digit, is_name_byte}
 -- where in the text a byte stands: between words, in a name, in a number, or in quotes
 pub data Within : Type 0 where
   Between : Within
-  Name : List ℕ → Within
+  Name : Bytes → Within
   Number : Within
   Quotes : ℕ → Within
   Escape : ℕ → Within
@@ -18,12 +18,12 @@ abbrev pub enters : ℕ → Within
 enters b = if begins_names b then Name (b ∷ []) else (if is_digit b then Number else (if (b == 34) || (b == 39) then Quotes b else Between))
 
 -- the name that ends there, if one does
-abbrev pub leaves : Within → List (List ℕ)
+abbrev pub leaves : Within → List Bytes
 leaves (Name name) = name ∷ []
 leaves w = []
 
 -- the names of what is left of the text
-abbrev pub names_within : Within → List ℕ → List (List ℕ)
+abbrev pub names_within : Within → Bytes → List Bytes
 names_within w [] = leaves w
 names_within (Quotes mark) (b ∷ bs) = if b == 92 then names_within (Escape mark) bs else (if b == mark then names_within Between bs else names_within (Quotes mark) bs)
 names_within (Escape mark) (b ∷ bs) = names_within (Quotes mark) bs
@@ -32,5 +32,5 @@ names_within Number (b ∷ bs) = if b == space then names_within Between bs else
 names_within Between (b ∷ bs) = names_within (enters b) bs
 
 -- the names of a piece, in order
-abbrev pub names_of_piece : List ℕ → List (List ℕ)
+abbrev pub names_of_piece : Bytes → List Bytes
 names_of_piece text = names_within Between text

@@ -3,6 +3,7 @@
 -- free truths of opaque pieces and of `#define` lines are this project's rule.
 use Rattle.std.specs.Prelude.{ℕ, Bool, true, false, not, ◌&&◌, ◌||◌, List, [], ◌∷◌, ◌++◌, if◌then◌else◌, get_or, filter, length}
 use Rattle.std.specs.List.{list_any, list_all}
+use Rattle.ut_text.specs.Bytes.{Bytes}
 use Rattle.ut_text.specs.Text.{text_eq}
 use Rattle.cpp_directives.specs.declared.condition.Cond.{Cond}
 use Rattle.cpp_directives.specs.declared.condition.Cond.TheOpen.{Cond-F}
@@ -20,8 +21,8 @@ use Rattle.cpp_blocks.specs.Pieces.{names_of_piece}
 -- number of earlier macro lines that touch it, and the truth of each free `#define` by its line
 pub record Start : Type 0 where
   pub built : Bool
-  pub macros : List ℕ → MacroState
-  pub piece : List ℕ → ℕ → Bool
+  pub macros : Bytes → MacroState
+  pub piece : Bytes → ℕ → Bool
   pub line : ℕ → Bool
 
 -- an open chain: whether the block round it is on, and whether a group of it was on
@@ -34,8 +35,8 @@ pub record OpenChain : Type 0 where
 pub record Running : Type 0 where
   pub on : Bool
   pub chains : List OpenChain
-  pub macros : List ℕ → MacroState
-  pub touched : List (List ℕ)
+  pub macros : Bytes → MacroState
+  pub touched : List Bytes
   pub blocks : List Bool
 
 -- ---- conditions
@@ -43,15 +44,17 @@ pub record Running : Type 0 where
 -- `defined X`
 abbrev pub is_defined : MacroState → Bool
 is_defined Undefined = false
-is_defined s = true
+is_defined DefinedFalse = true
+is_defined DefinedTrue = true
 
 -- a macro stands for a number other than 0
 abbrev pub is_true : MacroState → Bool
+is_true Undefined = false
+is_true DefinedFalse = false
 is_true DefinedTrue = true
-is_true s = false
 
 -- how many earlier macro lines name a name of the piece
-abbrev pub touches : List (List ℕ) → List ℕ → ℕ
+abbrev pub touches : List Bytes → Bytes → ℕ
 touches touched text = length (filter (λ name. list_any (text_eq name) (names_of_piece text)) touched)
 
 -- one condition, with the truth of each inner one in its place
@@ -93,7 +96,7 @@ closed r [] = r
 closed r (c ∷ cs) = record r { on = c.around; chains = cs }
 
 -- a macro line counts in a block that is on
-abbrev pub sets : Running → List ℕ → MacroState → Running
+abbrev pub sets : Running → Bytes → MacroState → Running
 sets r name state = record r {
   macros = λ other. if r.on && text_eq name other then state else r.macros other;
   touched = r.touched ++ name ∷ [];
@@ -125,8 +128,12 @@ run_from start r [] = r
 run_from start r (d ∷ ds) = run_from start (step start r d) ds
 
 -- a run begins in block 0, which is on where the source is built
+abbrev pub beginning : Start → Running
+beginning start = record { on = start.built; chains = []; macros = start.macros; touched = []; blocks = start.built ∷ [] }
+
+-- the whole run
 abbrev pub run_of : Start → List Directive → Running
-run_of start ds = run_from start (record { on = start.built; chains = []; macros = start.macros; touched = []; blocks = start.built ∷ [] }) ds
+run_of start ds = run_from start (beginning start) ds
 
 -- whether a block is on in the run; block 0 is the source itself
 abbrev pub is_on_in : Start → List Directive → ℕ → Bool

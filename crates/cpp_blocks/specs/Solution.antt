@@ -2,6 +2,7 @@
 -- choice of the source's blocks and states meets the facts, and it is that of the run. This project's rule.
 use Rattle.std.specs.Prelude.{◌≡◌, ℕ, ◌==◌, ◌<◌, ◌≤◌, Bool, true, false, Option, None, Some, List, [], ◌∷◌, ◌++◌, if◌then◌else◌, map, filter, length, get_or, slice_get}
 use Rattle.std.specs.List.{list_any}
+use Rattle.ut_text.specs.Bytes.{Bytes}
 use Rattle.ut_logic.specs.declared.item.Item.{Item}
 use Rattle.ut_logic.specs.declared.item.Item.TheVariants as item
 use Rattle.ut_logic.specs.declared.facts.Fact.{Fact}
@@ -14,8 +15,8 @@ use Rattle.cpp_blocks.specs.declared.starts.BuiltOf.{BuiltOf}
 use Rattle.cpp_blocks.specs.declared.state.MacroState.{MacroState}
 use Rattle.cpp_blocks.specs.declared.state.MacroState.TheVariants.{Undefined, DefinedFalse, DefinedTrue}
 use Rattle.cpp_blocks.specs.Blocks.{count_of}
-use Rattle.cpp_blocks.specs.Formulas.{Source, source_of, name_in, piece_in, defined_item, true_item}
-use Rattle.cpp_blocks.specs.Run.{Start, Running, step, is_defined, is_true, is_on_in}
+use Rattle.cpp_blocks.specs.Formulas.{Source, name_in, piece_in, defined_item, true_item}
+use Rattle.cpp_blocks.specs.Run.{Start, Running, beginning, step, is_defined, is_true, is_on_in}
 use Rattle.cpp_blocks.specs.Turns.{touched_at}
 
 -- ---- the start that free items choose
@@ -40,27 +41,23 @@ start_of src starts built v = record {
 
 -- ---- the states of a macro
 
--- where a run begins
-abbrev pub beginning : Start → Running
-beginning start = record { on = start.built; chains = []; macros = start.macros; touched = []; blocks = start.built ∷ [] }
+-- the states of a macro after each of its lines, where the run goes on from there
+abbrev pub states_after : Start → Running → Bytes → List Directive → List MacroState
+states_after start r name [] = []
+states_after start r name (d ∷ ds) = map (λ line. (step start r d).macros name) (filter (λ line. text_eq line name) (touched_at d.what)) ++ states_after start (step start r d) name ds
 
--- the states of a macro behind each of its lines, where the run goes on from there
-abbrev pub states_behind : Start → Running → List ℕ → List Directive → List MacroState
-states_behind start r name [] = []
-states_behind start r name (d ∷ ds) = map (λ line. (step start r d).macros name) (filter (λ line. text_eq line name) (touched_at d.what)) ++ states_behind start (step start r d) name ds
-
--- the states of a macro in the run: at the start, and behind each of its lines
-abbrev pub states_of : Start → List Directive → List ℕ → List MacroState
-states_of start ds name = start.macros name ∷ states_behind start (beginning start) name ds
+-- the states of a macro in the run: at the start, and after each of its lines
+abbrev pub states_of : Start → List Directive → Bytes → List MacroState
+states_of start ds name = start.macros name ∷ states_after start (beginning start) name ds
 
 -- ---- the solution
 
 -- each block and each state has the truth that the run gives it
 pub record IsRun (src : Source) (ds : List Directive) (start : Start) (v : Item → Bool) : Type 0 where
   pub blocks : (block : ℕ) → block ≤ count_of ds → v (item.Block src.file block) ≡ is_on_in start ds block
-  pub defined : (name : List ℕ) → list_any (text_eq name) src.names ≡ true → (turn : ℕ) → turn < length (states_of start ds name)
+  pub defined : (name : Bytes) → list_any (text_eq name) src.names ≡ true → (turn : ℕ) → turn < length (states_of start ds name)
       → v (defined_item src name turn) ≡ is_defined (get_or (states_of start ds name) turn Undefined)
-  pub truths : (name : List ℕ) → list_any (text_eq name) src.names ≡ true → (turn : ℕ) → turn < length (states_of start ds name)
+  pub truths : (name : Bytes) → list_any (text_eq name) src.names ≡ true → (turn : ℕ) → turn < length (states_of start ds name)
       → v (true_item src name turn) ≡ is_true (get_or (states_of start ds name) turn Undefined)
 
 -- whether an item is one of the blocks and states of the file

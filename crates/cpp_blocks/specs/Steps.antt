@@ -1,16 +1,16 @@
 -- The facts of directives. A block is on where its parent is, no earlier group of its chain is, and its
--- condition holds. Behind a `#define` in a block a macro is defined where the block is on or it was defined
+-- condition holds. After a `#define` in a block a macro is defined where the block is on or it was defined
 -- before, and true where the block is on and the line's truth is, or the block is off and it was true before;
--- behind an `#undef` it is defined, and true, where the block is off and it was before.
+-- after an `#undef` it is defined, and true, where the block is off and it was before.
 -- Rule: ISO C, "Conditional inclusion" and "Macro replacement"; facts are this project's rule.
 use Rattle.std.specs.Prelude.{ℕ, suc, Bool, true, false, List, [], ◌∷◌, ◌++◌, map, filter}
+use Rattle.ut_text.specs.Bytes.{Bytes}
 use Rattle.ut_logic.specs.declared.item.Item.{Item}
 use Rattle.ut_logic.specs.declared.item.Item.TheVariants as item
 use Rattle.ut_logic.specs.declared.node.Node.{Node}
 use Rattle.ut_logic.specs.declared.node.Node.TheVariants as node
 use Rattle.ut_logic.specs.declared.formula.Formula.{Formula}
 use Rattle.ut_logic.specs.declared.formula.Formula.TheVariants.{Yes, No, Is}
-use Rattle.ut_logic.specs.declared.facts.Definition.{Definition}
 use Rattle.ut_logic.specs.declared.facts.Fact.{Fact}
 use Rattle.ut_logic.specs.Fold.{not_of, all_of, any_of}
 use Rattle.ut_logic.specs.Truth.{mentioned}
@@ -20,7 +20,7 @@ use Rattle.cpp_directives.specs.declared.directive.Gives.TheVariants.{Zero, Nonz
 use Rattle.cpp_directives.specs.declared.directive.What.{What}
 use Rattle.cpp_directives.specs.declared.directive.What.TheVariants.{If, Elif, Else, Endif, Define, Undef}
 use Rattle.cpp_blocks.specs.declared.groups.OpenGroups.{OpenGroups}
-use Rattle.cpp_blocks.specs.Formulas.{Source, Turn, turns_behind, defined_item, true_item, state_node, formula_of, states_in}
+use Rattle.cpp_blocks.specs.Formulas.{Source, Turn, turns_after, defined_item, true_item, state_node, formula_of, states_in}
 use Rattle.cpp_blocks.specs.Turns.{touched_at}
 
 -- where a directive stands: the number of the next block, and the open chains from the innermost, each with
@@ -78,8 +78,8 @@ given_items file line Zero = []
 given_items file line Nonzero = []
 given_items file line Free = item.Line file line ∷ []
 
--- the fact of a macro's state behind a line of it in a block, where it was in the state of this turn before
-abbrev pub state_fact : Source → List ℕ → ℕ → ℕ → Formula → Formula → List Item → Fact
+-- the fact of a macro's state after a line of it in a block, where it was in the state of this turn before
+abbrev pub state_fact : Source → Bytes → ℕ → ℕ → Formula → Formula → List Item → Fact
 state_fact src name turn block d t items = record {
   node = state_node src name (suc turn);
   holds = [];
@@ -89,14 +89,14 @@ state_fact src name turn block d t items = record {
 }
 
 -- a `#define` in a block
-abbrev pub define_fact : Source → List ℕ → ℕ → ℕ → ℕ → Gives → Fact
+abbrev pub define_fact : Source → Bytes → ℕ → ℕ → ℕ → Gives → Fact
 define_fact src name turn block line gives = state_fact src name turn block
     (any_of (Is (item.Block src.file block) ∷ Is (defined_item src name turn) ∷ []))
     (any_of (all_of (Is (item.Block src.file block) ∷ given_truth src.file line gives ∷ []) ∷ all_of (not_of (Is (item.Block src.file block)) ∷ Is (true_item src name turn) ∷ []) ∷ []))
     (given_items src.file line gives)
 
 -- an `#undef` in a block
-abbrev pub undef_fact : Source → List ℕ → ℕ → ℕ → Fact
+abbrev pub undef_fact : Source → Bytes → ℕ → ℕ → Fact
 undef_fact src name turn block = state_fact src name turn block
     (all_of (not_of (Is (item.Block src.file block)) ∷ Is (defined_item src name turn) ∷ []))
     (all_of (not_of (Is (item.Block src.file block)) ∷ Is (true_item src name turn) ∷ []))
@@ -132,15 +132,15 @@ abbrev pub closed : Standing → Standing
 closed at = record at { chains = round at.chains }
 
 -- where the next directive stands
-abbrev pub behind : Standing → What → Standing
-behind at (If cond) = opened at
-behind at (Elif cond) = turned at at.chains
-behind at Else = turned at at.chains
-behind at Endif = closed at
-behind at (Define name gives) = at
-behind at (Undef name) = at
+abbrev pub after : Standing → What → Standing
+after at (If cond) = opened at
+after at (Elif cond) = turned at at.chains
+after at Else = turned at at.chains
+after at Endif = closed at
+after at (Define name gives) = at
+after at (Undef name) = at
 
--- the facts of directives that stand there behind these macro lines, in order
-abbrev pub facts_along : Source → List (List ℕ) → Standing → List Directive → List Fact
+-- the facts of directives that stand there after these macro lines, in order
+abbrev pub facts_along : Source → List Bytes → Standing → List Directive → List Fact
 facts_along src touched at [] = []
-facts_along src touched at (d ∷ ds) = fact_at src (turns_behind touched) at d.line d.what ++ facts_along src (touched ++ touched_at d.what) (behind at d.what) ds
+facts_along src touched at (d ∷ ds) = fact_at src (turns_after touched) at d.line d.what ++ facts_along src (touched ++ touched_at d.what) (after at d.what) ds

@@ -66,8 +66,18 @@ pub fn formula(alloc: Global, place: &Place, cond: &Cond) -> Result<Formula, All
     match cond {
         Cond::Const(true) => Ok(Formula::Yes),
         Cond::Const(false) => Ok(Formula::No),
-        Cond::Defined(name) => Ok(Formula::Is(defined_item(place.file, place.blocks, name, place.turns.of(name))?)),
-        Cond::Plain(name) => Ok(Formula::Is(true_item(place.file, place.blocks, name, place.turns.of(name))?)),
+        Cond::Defined(name) => Ok(Formula::Is(defined_item(
+            place.file,
+            place.blocks,
+            name,
+            place.turns.of(name),
+        )?)),
+        Cond::Plain(name) => Ok(Formula::Is(true_item(
+            place.file,
+            place.blocks,
+            name,
+            place.turns.of(name),
+        )?)),
         Cond::Piece(text) => Ok(Formula::Is(piece_item(alloc, place, text)?)),
         Cond::Neg(inner) => {
             let inner = formula(alloc, place, inner.get())?;
@@ -86,11 +96,7 @@ pub fn formula(alloc: Global, place: &Place, cond: &Cond) -> Result<Formula, All
 
 /// The formulas of several conditions there.
 #[cycle(formulas)]
-fn formula_each(
-    alloc: Global,
-    place: &Place,
-    list: &[Cond],
-) -> Result<Vec<Formula>, AllocError>
+fn formula_each(alloc: Global, place: &Place, list: &[Cond]) -> Result<Vec<Formula>, AllocError>
     ensures { IfOk result (λ fs. fs.items ≡ map (spec.formula_of (source_at place.now) (turns_at place.now)) list.now) }
 {
     let mut all = Vec::with_capacity(alloc, list.len())?;
@@ -101,11 +107,7 @@ fn formula_each(
 }
 
 /// Adds the state of a name there.
-fn add_state(
-    place: &Place,
-    name: &Text,
-    nodes: &mut Vec<Node>,
-) -> Result<(), AllocError>
+fn add_state(place: &Place, name: &Text, nodes: &mut Vec<Node>) -> Result<(), AllocError>
     ensures { OnOk result (nodes.new.items ≡ nodes.old.items ++ spec.state_node (source_at place.now) name.now ((turns_at place.now).name name.now) ∷ []) }
 {
     nodes.push(state_node(place.file, place.blocks, name, place.turns.of(name))?)?;
@@ -114,11 +116,7 @@ fn add_state(
 
 /// Adds the states that a condition refers to there.
 #[cycle(states)]
-pub fn add_states(
-    place: &Place,
-    cond: &Cond,
-    nodes: &mut Vec<Node>,
-) -> Result<(), AllocError>
+pub fn add_states(place: &Place, cond: &Cond, nodes: &mut Vec<Node>) -> Result<(), AllocError>
     ensures { OnOk result (nodes.new.items ≡ nodes.old.items ++ spec.states_in (source_at place.now) (turns_at place.now) cond.now) }
 {
     match cond {
@@ -134,11 +132,7 @@ pub fn add_states(
 
 /// Adds the states that several conditions refer to there.
 #[cycle(states)]
-fn add_states_each(
-    place: &Place,
-    list: &[Cond],
-    nodes: &mut Vec<Node>,
-) -> Result<(), AllocError>
+fn add_states_each(place: &Place, list: &[Cond], nodes: &mut Vec<Node>) -> Result<(), AllocError>
     ensures { OnOk result (nodes.new.items ≡ nodes.old.items ++ map (λ name. spec.state_node (source_at place.now) name ((turns_at place.now).name name)) (flat_map (λ found. found) (map names_in list.now))) }
 {
     for part in list {

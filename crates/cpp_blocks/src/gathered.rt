@@ -85,7 +85,7 @@ impl Gathered {
     }
 }
 
-/// Puts a fact behind those of the name with this number.
+/// Adds a fact to those of the name with this number.
 fn put_at(states: &mut Vec<Vec<Fact>>, name: u32, fact: Fact) -> Result<(), AllocError>
     ensures { OnOk result (map (λ list. list.items) states.new.items ≡ spec.put_at name fact (map (λ list. list.items) states.old.items)) }
 {

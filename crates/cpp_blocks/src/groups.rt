@@ -69,7 +69,7 @@ impl Groups {
 
     /// Passes a directive. The only error is want of memory.
     pub fn pass(&mut self, alloc: Global, what: &What) -> Result<(), AllocError>
-        ensures { OnOk result (self.new ≡ spec.behind self.old what.now) }
+        ensures { OnOk result (self.new ≡ spec.after self.old what.now) }
     {
         match what {
             What::If(_) => self.open(alloc),

@@ -19,14 +19,15 @@ mod nesting;
 mod piece_names;
 mod pieces;
 mod place;
+mod shared;
 mod source_facts;
 mod starts;
 mod state;
 mod turns;
 
 pub use blocks::Blocks;
+pub use cpp_directives::is_well_formed;
 pub use pieces::PieceOf;
 pub use source_facts::block_facts;
 pub use starts::{BuiltOf, StartOf};
 pub use state::MacroState;
-pub use cpp_directives::is_well_formed;

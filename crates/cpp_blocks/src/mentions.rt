@@ -15,7 +15,7 @@ use indexmap::IndexSet;
 use std::alloc::{AllocError, Global};
 use ut_logic::Text;
 
-/// Puts a name behind the others, if it is new.
+/// Adds a name, if it is new.
 fn add_name(alloc: Global, name: &Text, names: &mut IndexSet<Text>) -> Result<(), AllocError>
     ensures { OnOk result (names.new.keys ≡ spec.with_new text_eq names.old.keys name.now) }
 {
@@ -79,7 +79,7 @@ pub fn names_of(alloc: Global, list: &[Directive]) -> Result<IndexSet<Text>, All
     Ok(names)
 }
 
-/// Puts a piece behind the others, if it is new.
+/// Adds a piece, if it is new.
 fn add_piece(
     alloc: Global,
     text: &Text,
@@ -145,7 +145,7 @@ fn add_pieces_at(
     match what {
         What::If(cond) => add_pieces(alloc, cond, turns, pieces),
         What::Elif(cond) => add_pieces(alloc, cond, turns, pieces),
-        _ => Ok(()),
+        What::Else | What::Endif | What::Define { .. } | What::Undef { .. } => Ok(()),
     }
 }
 

@@ -8,7 +8,7 @@ use std::marker::Model;
 
 /// The blocks of the directives passed so far: the next block's number, the open blocks from the outermost,
 /// for each block its parent and the place of its opening directive, and for each directive the innermost
-/// block that is open behind it.
+/// block that is open after it.
 #[derive(Drop)]
 pub struct Nesting {
     next: u32,

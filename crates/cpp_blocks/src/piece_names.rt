@@ -1,14 +1,15 @@
 //! The names in the text of an opaque piece.
 
-ghost use Rattle.std.specs.Prelude.{◌≡◌, ℕ, List, ◌∷◌, ◌++◌, IfOk, OnOk};
+ghost use Rattle.std.specs.Prelude.{◌≡◌, ◌∷◌, ◌++◌, IfOk, OnOk};
+ghost use Rattle.ut_text.specs.Bytes.{Bytes};
 ghost use Rattle.cpp_blocks.specs.Pieces.{enters, leaves, names_within, names_of_piece, Quotes};
 ghost use Rattle.cpp_blocks.specs.Counted.{within_of, IsPlain};
 
 use std::alloc::{AllocError, Global};
 use ut_text::{Text, begins_names, is_digit, is_name_byte};
 
-/// Where a scan of a piece's text stands: between words, behind the bytes of a name, in a number, in quotes
-/// with this mark, or there behind a backslash.
+/// Where a scan of a piece's text stands: between words, after these bytes of a name, in a number, in quotes
+/// with this mark, or in them after a backslash.
 #[derive(Drop)]
 pub enum Scan {
     Between,
@@ -35,7 +36,7 @@ fn enter(alloc: Global, byte: u8) -> Result<Scan, AllocError>
     Ok(Scan::Between)
 }
 
-/// Puts the name that ends there, if one does, behind the others.
+/// Adds the name that ends there, if one does.
 fn leave(alloc: Global, scan: Scan, found: &mut Vec<Text>) -> Result<(), AllocError>
     requires { IsPlain (within_of scan) }
     ensures { OnOk result (found.new.items ≡ found.old.items ++ leaves (within_of scan)) }
@@ -46,10 +47,10 @@ fn leave(alloc: Global, scan: Scan, found: &mut Vec<Text>) -> Result<(), AllocEr
     Ok(())
 }
 
-/// One byte further: a name that ends there goes behind the others.
+/// Passes one byte, and adds the name that ends there, if one does.
 fn pass(alloc: Global, scan: Scan, byte: u8, found: &mut Vec<Text>) -> Result<Scan, AllocError>
     requires { IsPlain (within_of scan) }
-    ensures rest { IfOk result (λ s. (rest : List ℕ) → found.old.items ++ names_within (within_of scan) (byte ∷ rest) ≡ found.new.items ++ names_within (within_of s) rest) }
+    ensures rest { IfOk result (λ s. (rest : Bytes) → found.old.items ++ names_within (within_of scan) (byte ∷ rest) ≡ found.new.items ++ names_within (within_of s) rest) }
     ensures plain { IfOk result (λ s. IsPlain (within_of s)) }
 {
     match scan {
@@ -74,7 +75,7 @@ fn pass(alloc: Global, scan: Scan, byte: u8, found: &mut Vec<Text>) -> Result<Sc
 
 /// One byte further in quotes.
 fn in_quotes(mark: u8, byte: u8) -> Scan
-    ensures rest { (rest : List ℕ) → names_within (Quotes mark) (byte ∷ rest) ≡ names_within (within_of result) rest }
+    ensures rest { (rest : Bytes) → names_within (Quotes mark) (byte ∷ rest) ≡ names_within (within_of result) rest }
     ensures plain { IsPlain (within_of result) }
 {
     if byte == b'\\' {

@@ -5,7 +5,7 @@ use ut_logic::{Formula, Item, Node, Sequence};
 pub struct StartOf {
     pub d: Formula,
     pub t: Formula,
-    /// The nodes of the symbols behind the formulas.
+    /// The nodes of the symbols in the formulas.
     pub names: Sequence<Node>,
     /// The items of the formulas: those of undeclared names, outer conditions, starts and truths.
     pub items: Sequence<Item>,

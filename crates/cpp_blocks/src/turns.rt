@@ -1,5 +1,6 @@
 ghost use Rattle.std.specs.Prelude.{◌≡◌, ◌++◌, ℕ, suc, List, [], IfOk, OnOk, if◌then◌else◌};
 ghost use Rattle.std.specs.List.{sum_by};
+ghost use Rattle.ut_text.specs.Bytes.{Bytes};
 ghost use Rattle.ut_text.specs.Text.{text_eq};
 ghost use Rattle.cpp_blocks.specs.Mentions.{firsts};
 ghost use Rattle.cpp_blocks.specs.Counted.{turn_in, IsCounted, piece_turn};
@@ -57,18 +58,18 @@ impl Turns {
 
     /// Passes a directive. The only error is want of memory.
     pub fn pass(&mut self, alloc: Global, what: &What) -> Result<(), AllocError>
-        ensures { OnOk result ((touched : List (List ℕ)) → IsCounted self.old touched → IsCounted self.new (touched ++ touched_at what.now)) }
+        ensures { OnOk result ((touched : List Bytes) → IsCounted self.old touched → IsCounted self.new (touched ++ touched_at what.now)) }
     {
         match what {
             What::Define { name, .. } => self.count(alloc, name),
             What::Undef { name } => self.count(alloc, name),
-            _ => Ok(()),
+            What::If(_) | What::Elif(_) | What::Else | What::Endif => Ok(()),
         }
     }
 
     /// One more macro line of the name.
     fn count(&mut self, alloc: Global, name: &Text) -> Result<(), AllocError>
-        ensures { OnOk result ((x : List ℕ) → turn_in self.new x ≡ (if text_eq name.now x then suc (turn_in self.old name.now) else turn_in self.old x)) }
+        ensures { OnOk result ((x : Bytes) → turn_in self.new x ≡ (if text_eq name.now x then suc (turn_in self.old name.now) else turn_in self.old x)) }
     {
         let turn = self.of(name).checked_add(1).ok_or(AllocError)?;
         self.counts.insert(name.copy(alloc)?, turn)?;

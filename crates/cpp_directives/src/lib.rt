@@ -11,6 +11,7 @@
 mod bad;
 mod condition;
 mod directive;
+mod shared;
 mod well_formed;
 
 pub use bad::CppBad;

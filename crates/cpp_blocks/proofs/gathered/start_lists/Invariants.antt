@@ -1,4 +1,4 @@
--- The lists of what is left, behind what is there, give the whole.
+-- The lists so far and those of what is left are all.
 use Rattle.std.proofs.Common.{◌≡◌, ◌++◌, [], drop, map}
 use Rattle.cpp_blocks.specs.Gathered.{lists_from}
 use Rattle.cpp_blocks.proofs.gathered.start_lists.Given as goal

@@ -1,4 +1,4 @@
--- The names of what is left, behind what is there, give the whole.
+-- The names so far and those of what is left are all.
 use Rattle.std.proofs.Common.{◌≡◌, drop, map}
 use Rattle.std.specs.List.{flat_map}
 use Rattle.ut_text.specs.Text.{text_eq}

@@ -1,4 +1,4 @@
--- The pieces of what is left, behind what is there, give the whole.
+-- The pieces so far and those of what is left are all.
 use Rattle.std.proofs.Common.{◌≡◌, drop, map}
 use Rattle.std.specs.List.{flat_map}
 use Rattle.cpp_blocks.specs.Counted.{piece_turn}

@@ -1,5 +1,5 @@
--- The names of what is left, behind what is there, give the whole.
-use Rattle.std.proofs.Common.{◌≡◌, [], drop}
+-- The names so far and those of what is left are all.
+use Rattle.std.proofs.Common.{◌≡◌, drop}
 use Rattle.std.specs.List.{flat_map}
 use Rattle.ut_text.specs.Text.{text_eq}
 use Rattle.cpp_blocks.specs.Mentions.{firsts, names_at, names_of}

@@ -1,9 +1,7 @@
 use Rattle.std.proofs.Common.{◌+◌, ◌++◌, sym, ap, subst, ◌∙◌, drop, take, arith}
-use Rattle.cpp_directives.specs.declared.directive.Directive.{Directive}
 use Rattle.cpp_blocks.specs.Counted.{IsCounted}
 use Rattle.cpp_blocks.specs.Mentions.{firsts}
 use Rattle.cpp_blocks.specs.PieceIdentity.{piece_eq}
-use Rattle.cpp_blocks.specs.Run.{touches}
 use Rattle.cpp_blocks.specs.Turns.{touched_at, touched_in, pieces_at, pieces_from}
 use Rattle.cpp_blocks.proofs.FirstsLaws.{touched_next, pieces_next}
 use Rattle.cpp_blocks.proofs.TurnLaws.{pieces_counted}

@@ -1,4 +1,4 @@
--- The turns are those of the directives passed, and the pieces of what is left, behind what is there, give the whole.
+-- The turns are those of the directives passed, and the pieces so far and those of what is left are all.
 use Rattle.std.proofs.Common.{◌≡◌, drop, take}
 use Rattle.cpp_blocks.specs.Counted.{IsCounted}
 use Rattle.cpp_blocks.specs.Mentions.{firsts}

@@ -1,10 +1,10 @@
-use Rattle.std.proofs.Common.{◌≡◌, ◌<◌, length, get_or, ◌+◌, ◌++◌, [], ◌∷◌, sym, ap, subst, ◌∙◌, drop, take, arith}
+use Rattle.std.proofs.Common.{◌<◌, length, get_or, ◌+◌, [], sym, ap, subst, ◌∙◌, drop, take, arith}
 use Rattle.std.proofs.lemmas.List.{drop_all}
 use Rattle.std.proofs.lemmas.Result.{IfOk-weaker}
 use Rattle.cpp_blocks.specs.Counted.{IsCounted}
 use Rattle.cpp_blocks.specs.Facts.{at_first, file_fact}
 use Rattle.cpp_blocks.specs.Formulas.{source_of}
-use Rattle.cpp_blocks.specs.Gathered.{Gathered, put_all}
+use Rattle.cpp_blocks.specs.Gathered.{put_all}
 use Rattle.cpp_blocks.specs.Steps.{fact_at, facts_along}
 use Rattle.cpp_blocks.specs.Turns.{touched_in}
 use Rattle.cpp_blocks.proofs.FirstsLaws.{touched_next}

@@ -1,4 +1,4 @@
--- The new ones of what is left, behind what is there, give the whole.
+-- The new ones so far and those of what is left are all.
 use Rattle.std.proofs.Common.{◌≡◌, [], drop}
 use Rattle.ut_text.specs.Text.{text_eq}
 use Rattle.cpp_blocks.specs.Mentions.{firsts}

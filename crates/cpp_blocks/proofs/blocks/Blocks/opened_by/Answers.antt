@@ -1,7 +1,7 @@
-use Rattle.std.proofs.Common.{◌-◌, ◌<◌, ◌≤◌, [], length, get_or, ap, sym, subst, ◌∙◌, arith}
+use Rattle.std.proofs.Common.{◌-◌, ◌≤◌, [], length, get_or, ap, sym, subst, ◌∙◌, arith}
 use Rattle.std.proofs.lemmas.List.{get_or_read}
 use Rattle.cpp_blocks.specs.Blocks.{count_of}
-use Rattle.cpp_blocks.specs.Nesting.{opener_of, openers_from}
+use Rattle.cpp_blocks.specs.Nesting.{opener_of}
 use Rattle.cpp_blocks.proofs.NestedLaws.{as_many}
 use Rattle.cpp_blocks.proofs.blocks.Blocks.opened_by.Goals as goal
 
