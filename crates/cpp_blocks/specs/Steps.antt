@@ -88,19 +88,25 @@ state_fact src name turn block d t items = record {
   items = defined_item src name (suc turn) ∷ true_item src name (suc turn) ∷ items;
 }
 
+-- the block is off, and it was so before
+abbrev pub unless_on : ℕ → ℕ → Formula → Formula
+unless_on file block before = all_of (not_of (Is (item.Block file block)) ∷ before ∷ [])
+
+-- after a `#define` in a block a macro is defined where the block is on or it was defined before
+abbrev pub defined_by_define : Source → Bytes → ℕ → ℕ → Formula
+defined_by_define src name turn block = any_of (Is (item.Block src.file block) ∷ Is (defined_item src name turn) ∷ [])
+
+-- and true where the block is on and the line's truth is, or the block is off and it was true before
+abbrev pub true_by_define : Source → Bytes → ℕ → ℕ → ℕ → Gives → Formula
+true_by_define src name turn block line gives = any_of (all_of (Is (item.Block src.file block) ∷ given_truth src.file line gives ∷ []) ∷ unless_on src.file block (Is (true_item src name turn)) ∷ [])
+
 -- a `#define` in a block
 abbrev pub define_fact : Source → Bytes → ℕ → ℕ → ℕ → Gives → Fact
-define_fact src name turn block line gives = state_fact src name turn block
-    (any_of (Is (item.Block src.file block) ∷ Is (defined_item src name turn) ∷ []))
-    (any_of (all_of (Is (item.Block src.file block) ∷ given_truth src.file line gives ∷ []) ∷ all_of (not_of (Is (item.Block src.file block)) ∷ Is (true_item src name turn) ∷ []) ∷ []))
-    (given_items src.file line gives)
+define_fact src name turn block line gives = state_fact src name turn block (defined_by_define src name turn block) (true_by_define src name turn block line gives) (given_items src.file line gives)
 
--- an `#undef` in a block
+-- an `#undef` in a block: the macro is defined, and true, where the block is off and it was before
 abbrev pub undef_fact : Source → Bytes → ℕ → ℕ → Fact
-undef_fact src name turn block = state_fact src name turn block
-    (all_of (not_of (Is (item.Block src.file block)) ∷ Is (defined_item src name turn) ∷ []))
-    (all_of (not_of (Is (item.Block src.file block)) ∷ Is (true_item src name turn) ∷ []))
-    []
+undef_fact src name turn block = state_fact src name turn block (unless_on src.file block (Is (defined_item src name turn))) (unless_on src.file block (Is (true_item src name turn))) []
 
 -- ---- directives
 

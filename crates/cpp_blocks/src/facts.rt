@@ -3,7 +3,7 @@
 ghost use Rattle.std.specs.Prelude.{◌≡◌, ◌++◌, ◌∷◌, [], map, filter, IfOk};
 ghost use Rattle.ut_logic.specs.Truth.{mentioned};
 ghost use Rattle.ut_logic.specs.Fold as fold;
-ghost use Rattle.cpp_blocks.specs.Places.{group_at, state_at, define_at, undef_at};
+ghost use Rattle.cpp_blocks.specs.Places.{group_at, state_at, defined_before_at, true_before_at, unless_on_at, defined_by_define_at, true_by_define_at, define_at, undef_at};
 ghost use Rattle.cpp_blocks.specs.Steps as spec;
 
 use crate::blocks::Blocks;
@@ -213,6 +213,52 @@ fn given_items(alloc: Global, file: u32, line: u32, gives: Gives) -> Result<Vec<
     }
 }
 
+/// The macro is defined before this line.
+fn defined_before(line: &MacroLine) -> Result<Formula, AllocError>
+    ensures { IfOk result (λ f. f ≡ defined_before_at line.now) }
+{
+    let item = defined_item(line.file, line.blocks, line.name, line.turn)?;
+    Ok(Formula::Is(item))
+}
+
+/// The macro is true before this line.
+fn true_before(line: &MacroLine) -> Result<Formula, AllocError>
+    ensures { IfOk result (λ f. f ≡ true_before_at line.now) }
+{
+    let item = true_item(line.file, line.blocks, line.name, line.turn)?;
+    Ok(Formula::Is(item))
+}
+
+/// The block is off, and it was so before.
+fn unless_on(alloc: Global, line: &MacroLine, before: Formula) -> Result<Formula, AllocError>
+    ensures { IfOk result (λ f. f ≡ unless_on_at line.now before) }
+{
+    Ok(all_of(vec![in alloc; off(alloc, line.file, line.block)?, before]?))
+}
+
+/// When the macro is defined after a `#define`.
+fn defined_by_define(alloc: Global, line: &MacroLine) -> Result<Formula, AllocError>
+    ensures { IfOk result (λ f. f ≡ defined_by_define_at line.now) }
+{
+    let before = defined_before(line)?;
+    Ok(any_of(vec![in alloc; on(line.file, line.block), before]?))
+}
+
+/// When the macro is true after a `#define` that stands on this physical line.
+fn true_by_define(
+    alloc: Global,
+    line: &MacroLine,
+    number: u32,
+    gives: Gives,
+) -> Result<Formula, AllocError>
+    ensures { IfOk result (λ f. f ≡ true_by_define_at line.now number gives) }
+{
+    let truth = given_truth(line.file, number, gives);
+    let given = all_of(vec![in alloc; on(line.file, line.block), truth]?);
+    let kept = unless_on(alloc, line, true_before(line)?)?;
+    Ok(any_of(vec![in alloc; given, kept]?))
+}
+
 /// The fact of a `#define` that stands on this physical line.
 pub fn define_fact(
     alloc: Global,
@@ -222,14 +268,9 @@ pub fn define_fact(
 ) -> Result<Fact, AllocError>
     ensures { IfOk result (λ fact. fact ≡ define_at line.now number gives) }
 {
-    let (file, block) = (line.file, line.block);
-    let before = Formula::Is(defined_item(file, line.blocks, line.name, line.turn)?);
-    let d = any_of(vec![in alloc; on(file, block), before]?);
-    let before = Formula::Is(true_item(file, line.blocks, line.name, line.turn)?);
-    let given = all_of(vec![in alloc; on(file, block), given_truth(file, number, gives)]?);
-    let kept = all_of(vec![in alloc; off(alloc, file, block)?, before]?);
-    let t = any_of(vec![in alloc; given, kept]?);
-    let more = given_items(alloc, file, number, gives)?;
+    let d = defined_by_define(alloc, line)?;
+    let t = true_by_define(alloc, line, number, gives)?;
+    let more = given_items(alloc, line.file, number, gives)?;
     state_fact(alloc, line, d, t, &more)
 }
 
@@ -237,10 +278,7 @@ pub fn define_fact(
 pub fn undef_fact(alloc: Global, line: &MacroLine) -> Result<Fact, AllocError>
     ensures { IfOk result (λ fact. fact ≡ undef_at line.now) }
 {
-    let (file, block) = (line.file, line.block);
-    let before = Formula::Is(defined_item(file, line.blocks, line.name, line.turn)?);
-    let d = all_of(vec![in alloc; off(alloc, file, block)?, before]?);
-    let before = Formula::Is(true_item(file, line.blocks, line.name, line.turn)?);
-    let t = all_of(vec![in alloc; off(alloc, file, block)?, before]?);
+    let d = unless_on(alloc, line, defined_before(line)?)?;
+    let t = unless_on(alloc, line, true_before(line)?)?;
     state_fact(alloc, line, d, t, &[])
 }

@@ -35,5 +35,3 @@ pub use reader::{conditions_follow_rules, read_condition};
 pub use source::directives;
 pub use token::Token;
 
-#[cfg(test)]
-mod rows;
