@@ -117,7 +117,10 @@ fn conditions(rt: HostRuntime) -> Result<(), Fail> {
         let source = format!(in alloc; "#if {text}\n#endif\n")?;
         let got = outcome(alloc, source.as_bytes())?;
         let read = format!(in alloc; "1:if {want};2:endif;")?;
-        assert!(rt; got.as_str() == want || got.as_str() == read.as_str(), "{row}: {got}");
+        assert!(rt;
+            got.as_str() == want || got.as_str() == read.as_str(),
+            "{row}: {got}"
+        );
     }
     Ok(())
 }
