@@ -1,7 +1,5 @@
 -- The refusals of the worked readers.
 use Rattle.ut_base.specs.Reading.{Errors}
-use Rattle.ut_base.specs.declared.limits.Limit.{Limit}
-use Rattle.ut_base.specs.declared.limits.Limit.TheVariants as limit
 use Rattle.ut_base_rows.specs.declared.bad.FolderBad.{FolderBad}
 use Rattle.ut_base_rows.specs.declared.bad.FolderBad.TheVariants as folder
 use Rattle.ut_base_rows.specs.declared.bad.JobBad.{JobBad}
