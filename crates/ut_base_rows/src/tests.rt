@@ -134,31 +134,31 @@ fn read(alloc: Global, source: &str, fails: Vec<u64>) -> Result<Result<Wholes, J
     Ok(read_wholes(alloc, &mut files, &wanted(alloc, source)?, &mut meter))
 }
 
-fn push_texts(told: &mut String, texts: &Texts) -> Result<(), Fail> {
+fn push_texts(line: &mut String, texts: &Texts) -> Result<(), Fail> {
     for text in texts.list() {
         for byte in text.bytes() {
-            told.push(char::from(*byte))?;
+            line.push(char::from(*byte))?;
         }
-        told.push(' ')?;
+        line.push(' ')?;
     }
     Ok(())
 }
 
 /// All texts that were read, or the refusal.
 fn shown(alloc: Global, read: &Result<Wholes, JobBad>) -> Result<String, Fail> {
-    let mut told = String::new(alloc);
+    let mut line = String::new(alloc);
     match read {
         Ok(wholes) => {
-            push_texts(&mut told, &wholes.folders)?;
-            push_texts(&mut told, &wholes.sources)?;
+            push_texts(&mut line, &wholes.folders)?;
+            push_texts(&mut line, &wholes.sources)?;
         }
-        Err(JobBad::Folder { file }) => write!(told, "folder {}", file.text())?,
-        Err(JobBad::Missing { file }) => write!(told, "missing {}", file.text())?,
-        Err(JobBad::ReadFault { file }) => write!(told, "fault {}", file.text())?,
-        Err(JobBad::TooLarge { what, count }) => write!(told, "{} {}", what.word(), *count)?,
-        Err(JobBad::Oom) => told.push_str("memory")?,
+        Err(JobBad::Folder { file }) => write!(line, "folder {}", file.text())?,
+        Err(JobBad::Missing { file }) => write!(line, "missing {}", file.text())?,
+        Err(JobBad::ReadFault { file }) => write!(line, "fault {}", file.text())?,
+        Err(JobBad::TooLarge { what, count }) => write!(line, "{} {}", what.word(), *count)?,
+        Err(JobBad::Oom) => line.push_str("memory")?,
     }
-    Ok(told)
+    Ok(line)
 }
 
 #[test]
@@ -176,8 +176,8 @@ fn a_job_reads_its_files_in_order(rt: HostRuntime) -> Result<(), Fail> {
     ];
     for (source, fails, want) in rows {
         let read = read(alloc, source, vec![in alloc; fails]?)?;
-        let told = shown(alloc, &read)?;
-        assert!(rt; told.as_str() == want, "{told}");
+        let line = shown(alloc, &read)?;
+        assert!(rt; line.as_str() == want, "{line}");
     }
     Ok(())
 }
