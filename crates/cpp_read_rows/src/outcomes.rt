@@ -100,3 +100,25 @@ pub fn outcome(alloc: Global, text: &[u8]) -> Result<String, Fail> {
         }
     }
 }
+
+/// What the condition of `#if` is read as, or the refusal's kind and line.
+pub fn condition_of(alloc: Global, condition: &str) -> Result<String, Fail> {
+    let source = format!(in alloc; "#if {condition}\n#endif\n")?;
+    let all = outcome(alloc, source.as_bytes())?;
+    let read = all.as_str();
+    let read = read.strip_prefix("1:if ").unwrap_or(read);
+    let read = read.strip_suffix(";2:endif;").unwrap_or(read);
+    Ok(String::from_str(alloc, read)?)
+}
+
+/// The text of a row: its front, its part as often as it says, and its end.
+pub fn repeated(alloc: Global, row: &str) -> Result<String, Fail> {
+    let mut fields = row.split('|');
+    let front = fields.next().ok_or("a front")?;
+    let part = fields.next().ok_or("a part")?;
+    let count = fields.next().ok_or("a count")?;
+    let end = fields.next().ok_or("an end")?;
+    let count = count.parse::<usize>().map_err(|_| "a count")?;
+    let parts = part.repeat(alloc, count)?;
+    Ok(format!(in alloc; "{front}{parts}{end}")?)
+}
