@@ -6,10 +6,10 @@ use Rattle.kconf_tree.specs.Value.{Configuration}
 use Rattle.kconf_tree.specs.Properties.{choice_visibility_of}
 use Rattle.kconf_tree.specs.Valid.{is_y, is_n, can_be_y, allows_mode, keeps_mode, is_right_choice}
 use Rattle.kconf_tree.specs.References.{own_references, choice_references}
-use Rattle.kconf_tree.specs.Made.{is_among}
+use Rattle.kconf_tree.specs.WellMade.{is_among}
 use Rattle.kconf_tree.proofs.Small.{or_left, or_right, number_self}
 use Rattle.kconf_tree.proofs.ValueLaws.{Agree, Alike, agree_left, agree_right}
-use Rattle.complete_conf.proofs.LimitsSame.{visibility_same, choice_visibility_same, members_agree}
+use Rattle.complete_conf.proofs.PropertiesSame.{visibility_same, choice_visibility_same, members_agree}
 use Rattle.complete_conf.proofs.PickLaws.{members_test}
 
 -- tests that agree on a list

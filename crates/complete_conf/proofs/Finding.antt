@@ -16,9 +16,9 @@ module _ (p : ℕ → Bool) where
       by true g rest = g
       by false g rest = rest g
 
-  pub find_behind : (xs ys : List ℕ) → find p xs ≡ None → find p (xs ++ ys) ≡ find p ys
-  find_behind [] ys h = refl
-  find_behind (x ∷ xs) ys h = by (p x) h (find_behind xs ys)
+  pub find_after : (xs ys : List ℕ) → find p xs ≡ None → find p (xs ++ ys) ≡ find p ys
+  find_after [] ys h = refl
+  find_after (x ∷ xs) ys h = by (p x) h (find_after xs ys)
     where
       by : (b : Bool) → cond b (Some x) (find p xs) ≡ None → (find p xs ≡ None → find p (xs ++ ys) ≡ find p ys) → cond b (Some x) (find p (xs ++ ys)) ≡ find p ys
       by true g rest = absurd (cc)

@@ -1,4 +1,4 @@
-mod LimitsSame
+mod PropertiesSame
 mod PickLaws
 mod ChoiceLaws
 mod NodeLaws

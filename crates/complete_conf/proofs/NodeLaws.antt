@@ -15,10 +15,10 @@ use Rattle.kconf_tree.specs.References.{symbol_references, choice_references, no
 use Rattle.kconf_tree.specs.Right.{IsRight}
 use Rattle.complete_conf.specs.Free.{is_candidate, least_mode, free_mode, named_by_defaults, picked_at, picked_of}
 use Rattle.complete_conf.specs.Completion.{with_value}
-use Rattle.kconf_tree.specs.Made.{is_among, IsWellMade}
+use Rattle.kconf_tree.specs.WellMade.{is_among, IsWellMade}
 use Rattle.kconf_tree.proofs.Small.{or_left, or_right, number_is, number_self, both_true, is_off}
 use Rattle.kconf_tree.proofs.ValueLaws.{Agree, Alike, alike_same, alike_then}
-use Rattle.complete_conf.proofs.LimitsSame.{calculated_same, right_stays, choice_visibility_same, members_agree}
+use Rattle.complete_conf.proofs.PropertiesSame.{calculated_same, right_stays, choice_visibility_same, members_agree}
 use Rattle.node_order.proofs.SettleLaws.{among, Settles}
 use Rattle.complete_conf.proofs.PickLaws.{least_is_allowed, members_test, picks_right}
 use Rattle.complete_conf.proofs.ChoiceLaws.{SameOn, same_on, same_back, members_same, can_same, choice_stays}

@@ -16,7 +16,7 @@ use Rattle.kconf_tree.specs.Orders.{node_at, with_members}
 use Rattle.complete_conf.specs.Free.{free_mode, picked_of}
 use Rattle.complete_conf.specs.Parts.{Part, Holds, IsClosedPart, IsRightPart, IsKeptBy}
 use Rattle.complete_conf.specs.Completion.{with_value, with_choice, with_node, completed}
-use Rattle.kconf_tree.specs.Made.{is_among, IsWellMade}
+use Rattle.kconf_tree.specs.WellMade.{is_among, IsWellMade}
 use Rattle.kconf_tree.proofs.Small.{or_left, or_right, or_cases, number_is, number_self, is_off, both_true, and_left, and_right}
 use Rattle.node_order.proofs.SettleLaws.{among, settle_all}
 use Rattle.complete_conf.proofs.NodeLaws.{settle_node, settle_choice, Right, nodes_settle}

@@ -7,7 +7,7 @@ use Rattle.kconf_tree.specs.Shape.{is_the}
 use Rattle.kconf_tree.specs.Valid.{allows_mode}
 use Rattle.kconf_tree.specs.Apart.{AreApart}
 use Rattle.complete_conf.specs.Free.{least_mode, picked_at}
-use Rattle.kconf_tree.specs.Made.{is_among}
+use Rattle.kconf_tree.specs.WellMade.{is_among}
 use Rattle.kconf_tree.proofs.Small.{and_left, and_right, or_left, or_right, or_left_false, or_right_false, number_is, number_self, both_true}
 
 module _ (p : ℕ → Bool) where

@@ -5,7 +5,7 @@ use Rattle.std.specs.List.{list_any}
 use Rattle.kconf_tree.specs.Shape.{is_the}
 use Rattle.kconf_tree.specs.Value.{Configuration}
 use Rattle.complete_conf.specs.Inner.{with_picked}
-use Rattle.kconf_tree.specs.Made.{is_among}
+use Rattle.kconf_tree.specs.WellMade.{is_among}
 use Rattle.complete_conf.specs.Parts.{Part}
 use Rattle.kconf_tree.proofs.Small.{or_left, or_right, or_cases, number_is, number_self}
 

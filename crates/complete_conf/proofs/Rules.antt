@@ -11,7 +11,7 @@ use Rattle.ut_logic.specs.Node.{node_eq, node_total}
 use Rattle.ut_logic.specs.NodeIdentity.{node_eq-Decides}
 use Rattle.kconf_tree.specs.declared.shape.Choice.{Choice as OneChoice}
 use Rattle.kconf_tree.specs.declared.shape.Symbol.{Symbol}
-use Rattle.kconf_tree.specs.Shape.{Shape, symbol_at, choice_at, is_member, no_choice, no_symbol}
+use Rattle.kconf_tree.specs.Shape.{Shape, symbol_at, choice_at, is_member, no_choice}
 use Rattle.kconf_tree.specs.Value.{Configuration}
 use Rattle.kconf_tree.specs.Valid.{is_right_choice, KeepsRules}
 use Rattle.kconf_tree.specs.References.{node_by, node_of, references_of}
@@ -20,7 +20,8 @@ use Rattle.kconf_tree.proofs.Places.{distinct_apart, distinct_has}
 use Rattle.kconf_tree.specs.Right.{IsRight}
 use Rattle.complete_conf.specs.Parts.{Part, IsClosedPart, IsRightPart}
 use Rattle.complete_conf.specs.Completion.{completed}
-use Rattle.kconf_tree.specs.Made.{is_among, IsWellMade}
+use Rattle.kconf_tree.specs.WellMade.{is_among, IsWellMade}
+use Rattle.kconf_tree.proofs.MadeLaws.{symbol_past}
 use Rattle.kconf_tree.proofs.Small.{or_left, or_right, or_cases, number_self}
 use Rattle.kconf_tree.proofs.RightLaws.{setting_from_right}
 use Rattle.node_order.proofs.SettleLaws.{among, settle_all, completed_right}
@@ -140,11 +141,6 @@ module _ (t : Shape) (order : List Node) (p : Part) (c : Configuration) (made : 
       is_none None h = refl
       is_none (Some i) h = absurd (cc)
 
-  behind : (ss : List Symbol) (k : ℕ) → length ss ≤ k → get_or ss k no_symbol ≡ no_symbol
-  behind [] k l = refl
-  behind (s ∷ ss) zero l = absurd (omega arith)
-  behind (s ∷ ss) (suc k) l = behind ss k (omega arith)
-
   choice_right : (i : ℕ) → i < length t.choices → is_right_choice t all i ≡ true
   choice_right i l = by (choice_at t i).members refl
     where
@@ -153,7 +149,7 @@ module _ (t : Shape) (order : List Node) (p : Part) (c : Configuration) (made : 
       by (j ∷ js) e = let there : (symbol_at t j).member_of ≡ Some i = made.of_choice i j (ap (λ (xs : List ℕ). is_among xs j) e ∙ or_left (j == j) (is_among js j) (number_self j)) in
           elim (cases_lt j (length t.symbols)) [
             | inl lt ↦ node_right (Choice i) (subst (λ (n : Node). Contains (nodes_of t) n) (ap (node_by j) there) (node_listed t j lt))
-            | inr ge ↦ absurd (let none : None ≡ Some i = sym (ap (λ (s : Symbol). s.member_of) (behind t.symbols j ge)) ∙ there in cc)
+            | inr ge ↦ absurd (let none : None ≡ Some i = sym (ap (λ (s : Symbol). s.member_of) (symbol_past t.symbols j ge)) ∙ there in cc)
           ]
 
   -- the completed configuration keeps the rules

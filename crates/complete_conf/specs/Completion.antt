@@ -1,5 +1,5 @@
 -- A configuration completed: along an order, all that doesn't belong to a part gets the value that it has
--- without a user's setting under what is there by then. A choice and its members come as one.
+-- without a user's setting under the configuration so far. A choice and its members are set together.
 -- This project's rule.
 use Rattle.std.specs.Prelude.{ℕ, ◌==◌, not, ◌&&◌, List, [], ◌∷◌, None, if◌then◌else◌}
 use Rattle.ut_logic.specs.declared.node.Node.{Node}
@@ -8,7 +8,7 @@ use Rattle.kconf_tree.specs.Shape.{Shape, choice_at, is_the, is_member}
 use Rattle.kconf_tree.specs.Value.{Configuration}
 use Rattle.kconf_tree.specs.Valid.{calculated_of}
 use Rattle.complete_conf.specs.Free.{free_mode, picked_of}
-use Rattle.kconf_tree.specs.Made.{is_among}
+use Rattle.kconf_tree.specs.WellMade.{is_among}
 use Rattle.complete_conf.specs.Parts.{Part}
 
 -- another value for one symbol

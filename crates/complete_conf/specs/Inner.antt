@@ -3,7 +3,7 @@ use Rattle.std.specs.Prelude.{◌≡◌, ◌<◌, ℕ, ◌==◌, true, not, ◌&
 use Rattle.kconf_tree.specs.Shape.{is_the}
 use Rattle.kconf_tree.specs.Value.{Configuration}
 use Rattle.complete_conf.specs.declared.config.Config.{Config}
-use Rattle.kconf_tree.specs.Made.{is_among}
+use Rattle.kconf_tree.specs.WellMade.{is_among}
 use Rattle.complete_conf.specs.Parts.{Part}
 
 -- y where the outer condition with this number is true, else n

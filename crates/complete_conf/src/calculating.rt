@@ -5,7 +5,7 @@ ghost use Rattle.complete_conf.specs.Config.{configuration_of};
 ghost use Rattle.kconf_tree.specs.Right.{is_settled, IsRight};
 
 use crate::config::Config;
-use crate::limits::{default_value, visibility};
+use crate::properties::{default_value, visibility};
 use crate::selecting::reverse;
 use crate::values::has_modules;
 use kconf_tree::{Counts, Tree};
@@ -37,9 +37,9 @@ pub fn calculated(tree: &Tree, config: &Config, sym: u32) -> Trit
     promoted(tree.counts_as(sym), has_modules(tree, config), raised)
 }
 
-/// What the calculation of a symbol's value begins with.
+/// What the calculation of a symbol's value reads.
 #[derive(Clone, Copy, Debug)]
-struct Limits {
+struct Inputs {
     counts: Counts,
     on: bool,
     visibility: Trit,
@@ -47,34 +47,34 @@ struct Limits {
     default: Trit,
 }
 
-/// The value that these limits give where the user sets it so.
-fn set_to(limits: Limits, value: Trit) -> Trit
-    ensures { rank result ≡ spec.calculate limits.counts limits.on (rank limits.visibility) (rank limits.reverse) (rank limits.default) (Some (rank value)) }
+/// The value that these give where the user sets `value`.
+fn set_to(inputs: Inputs, value: Trit) -> Trit
+    ensures { rank result ≡ spec.calculate inputs.counts inputs.on (rank inputs.visibility) (rank inputs.reverse) (rank inputs.default) (Some (rank value)) }
 {
-    let base = if limits.visibility == Trit::N {
-        limits.default
+    let base = if inputs.visibility == Trit::N {
+        inputs.default
     } else {
-        trit_and(value, limits.visibility)
+        trit_and(value, inputs.visibility)
     };
-    promoted(limits.counts, limits.on, trit_or(base, limits.reverse))
+    promoted(inputs.counts, inputs.on, trit_or(base, inputs.reverse))
 }
 
-/// The value that these limits give without a user's setting.
-fn unset(limits: Limits) -> Trit
-    ensures { rank result ≡ spec.calculate limits.counts limits.on (rank limits.visibility) (rank limits.reverse) (rank limits.default) None }
+/// The value that these give without a user's setting.
+fn unset(inputs: Inputs) -> Trit
+    ensures { rank result ≡ spec.calculate inputs.counts inputs.on (rank inputs.visibility) (rank inputs.reverse) (rank inputs.default) None }
 {
     promoted(
-        limits.counts,
-        limits.on,
-        trit_or(limits.default, limits.reverse),
+        inputs.counts,
+        inputs.on,
+        trit_or(inputs.default, inputs.reverse),
     )
 }
 
-/// Whether these limits give the value without a setting, or with itself as the setting.
-fn settles(limits: Limits, value: Trit) -> bool
-    ensures { result ≡ is_settled limits.counts limits.on (rank limits.visibility) (rank limits.reverse) (rank limits.default) (rank value) }
+/// Whether these give the value without a setting, or with itself as the setting.
+fn settles(inputs: Inputs, value: Trit) -> bool
+    ensures { result ≡ is_settled inputs.counts inputs.on (rank inputs.visibility) (rank inputs.reverse) (rank inputs.default) (rank value) }
 {
-    unset(limits) == value || set_to(limits, value) == value
+    unset(inputs) == value || set_to(inputs, value) == value
 }
 
 /// Whether some user's setting, or none, gives a symbol its own value.
@@ -82,12 +82,12 @@ pub fn is_right(tree: &Tree, config: &Config, sym: u32) -> bool
     requires { sym < length tree.now.shape.symbols }
     ensures { IsTrue result ↔ IsRight tree.now.shape (configuration_of config.now) sym }
 {
-    let limits = Limits {
+    let inputs = Inputs {
         counts: tree.counts_as(sym),
         on: has_modules(tree, config),
         visibility: visibility(tree, config, sym),
         reverse: reverse(tree, config, sym),
         default: default_value(tree, config, sym),
     };
-    settles(limits, config.value(sym))
+    settles(inputs, config.value(sym))
 }

@@ -7,7 +7,7 @@ ghost use Rattle.complete_conf.specs.Config.{configuration_of};
 ghost use Rattle.complete_conf.specs.Free as spec;
 
 use crate::config::Config;
-use crate::limits::{choice_visibility, visibility};
+use crate::properties::{choice_visibility, visibility};
 use crate::values::value_in;
 use kconf_entries::SelectOf;
 use kconf_tree::{Place, Tree};
@@ -18,7 +18,7 @@ pub fn free_mode(tree: &Tree, config: &Config, choice: u32) -> Trit
     requires { choice < length tree.now.shape.choices }
     ensures { rank result ≡ spec.free_mode tree.now.shape (configuration_of config.now) choice }
 {
-    if choice_visibility(tree, config, choice) == Trit::N || tree.optional(choice) {
+    if choice_visibility(tree, config, choice) == Trit::N || tree.choice_at(choice).optional {
         Trit::N
     } else {
         Trit::Y
@@ -82,9 +82,10 @@ fn candidate(tree: &Tree, config: &Config, choice: u32) -> Option<u32>
     requires { choice < length tree.now.shape.choices }
     ensures { result ≡ spec.candidate_of tree.now.shape (configuration_of config.now) choice }
 {
-    match named_candidate(tree, config, choice, tree.choice_defaults(choice)) {
+    let properties = tree.choice_at(choice);
+    match named_candidate(tree, config, choice, properties.defaults.as_slice()) {
         Some(sym) => Some(sym),
-        None => member_candidate(tree, config, choice, tree.members(choice)),
+        None => member_candidate(tree, config, choice, properties.members.as_slice()),
     }
 }
 
@@ -95,7 +96,7 @@ pub fn picked_in(tree: &Tree, config: &Config, choice: u32, mode: Trit) -> Optio
 {
     match mode {
         Trit::N => None,
-        _ => candidate(tree, config, choice),
+        Trit::M | Trit::Y => candidate(tree, config, choice),
     }
 }
 

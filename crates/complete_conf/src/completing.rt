@@ -4,7 +4,7 @@ ghost use Rattle.kconf_tree.specs.Valid.{IsValid};
 ghost use Rattle.complete_conf.specs.Completion.{completed, with_choice, with_node, with_symbol};
 ghost use Rattle.complete_conf.specs.Config.{configuration_of, FitsTree};
 ghost use Rattle.complete_conf.specs.Inner.{HaveValues, KeepsLengths, with_free_mode, with_picked};
-ghost use Rattle.kconf_tree.specs.Made.{IsNodeOf, IsWellMade};
+ghost use Rattle.kconf_tree.specs.WellMade.{IsNodeOf, IsWellMade};
 ghost use Rattle.complete_conf.specs.Parts.{part_of, IsClosedPart, IsKeptBy, IsRightPart};
 
 use crate::calculating::calculated;
@@ -13,7 +13,7 @@ use crate::config::{Config, Known};
 use kconf_tree::Tree;
 use ut_logic::{Node, Trit};
 
-/// Gives a member its value, if it isn't known.
+/// Sets the value of a member, unless it is known.
 fn complete_member(config: &mut Config, known: &Known, picked: Option<u32>, member: u32)
     ensures value { HaveValues config.old (member ∷ []) → configuration_of config.new ≡ with_picked (part_of known.now) (configuration_of config.old) picked (member ∷ []) }
     ensures lengths { KeepsLengths config.old config.new }
@@ -23,7 +23,7 @@ fn complete_member(config: &mut Config, known: &Known, picked: Option<u32>, memb
     }
 }
 
-/// Gives the members that aren't known their values.
+/// Sets the values of the members that aren't known.
 fn complete_members(config: &mut Config, known: &Known, picked: Option<u32>, members: &[u32])
     ensures value { HaveValues config.old members.now → configuration_of config.new ≡ with_picked (part_of known.now) (configuration_of config.old) picked members.now }
     ensures lengths { KeepsLengths config.old config.new }
@@ -33,7 +33,7 @@ fn complete_members(config: &mut Config, known: &Known, picked: Option<u32>, mem
     }
 }
 
-/// Gives a choice its mode, if it isn't known.
+/// Sets the mode of a choice, unless it is known.
 fn complete_mode(config: &mut Config, known: &Known, choice: u32, mode: Trit)
     requires { choice < length config.old.modes }
     ensures value { configuration_of config.new ≡ with_free_mode (part_of known.now) (configuration_of config.old) choice (rank mode) }
@@ -44,7 +44,7 @@ fn complete_mode(config: &mut Config, known: &Known, choice: u32, mode: Trit)
     }
 }
 
-/// Gives a choice and its members what they have without a user's setting, where it isn't known.
+/// Sets the mode of a choice and the values of its members to those without a user's setting, unless known.
 fn complete_choice(tree: &Tree, config: &mut Config, known: &Known, choice: u32)
     requires choice { choice < length tree.now.shape.choices }
     requires fits { FitsTree tree.now.shape config.old }
@@ -54,10 +54,15 @@ fn complete_choice(tree: &Tree, config: &mut Config, known: &Known, choice: u32)
     let mode = free_mode(tree, config, choice);
     let picked = picked_in(tree, config, choice, mode);
     complete_mode(config, known, choice, mode);
-    complete_members(config, known, picked, tree.members(choice));
+    complete_members(
+        config,
+        known,
+        picked,
+        tree.choice_at(choice).members.as_slice(),
+    );
 }
 
-/// Gives a symbol its calculated value, where it is no member and isn't known.
+/// Sets a symbol to its calculated value, unless it is a member or known.
 fn complete_symbol(tree: &Tree, config: &mut Config, known: &Known, sym: u32)
     requires sym { sym < length tree.now.shape.symbols }
     requires fits { FitsTree tree.now.shape config.old }
@@ -75,7 +80,7 @@ fn complete_symbol(tree: &Tree, config: &mut Config, known: &Known, sym: u32)
     }
 }
 
-/// Gives a node of the order what it has without a user's setting, where it isn't known.
+/// Sets a node of the order to what it has without a user's setting, unless it is known.
 fn complete_node(tree: &Tree, config: &mut Config, known: &Known, node: Node)
     requires { FitsTree tree.now.shape config.old }
     ensures value { IsWellMade tree.now.shape → IsNodeOf tree.now.shape node → configuration_of config.new ≡ with_node tree.now.shape (part_of known.now) (configuration_of config.old) node }
@@ -92,11 +97,11 @@ fn complete_node(tree: &Tree, config: &mut Config, known: &Known, node: Node)
                 complete_choice(tree, config, known, choice);
             }
         }
-        _ => {}
+        Node::Block { .. } | Node::State { .. } => {}
     }
 }
 
-/// Gives each of the nodes that isn't known what it has without a user's setting.
+/// Sets each of the nodes that isn't known to what it has without a user's setting.
 fn complete_nodes(tree: &Tree, config: &mut Config, known: &Known, nodes: &[Node])
     requires made { IsWellMade tree.now.shape }
     requires within { All (IsNodeOf tree.now.shape) nodes.now }
@@ -110,8 +115,8 @@ fn complete_nodes(tree: &Tree, config: &mut Config, known: &Known, nodes: &[Node
 }
 
 /// Completes a configuration: what is known stays, and every other symbol and choice gets, in the tree's
-/// order, the value or mode that it has without a user's setting under what is there by then. A choice
-/// and its members come as one.
+/// order, the value or mode that it has without a user's setting under the configuration so far. A choice
+/// and its members are set together.
 pub fn complete(tree: &Tree, config: &mut Config, known: &Known)
     requires fits { FitsTree tree.now.shape config.old }
     ensures completed { configuration_of config.new ≡ completed tree.now.shape (part_of known.now) (configuration_of config.old) tree.now.order }

@@ -24,7 +24,7 @@ pub struct Known {
     pub choices: Items<bool>,
 }
 
-/// The value with this number, n behind the last one.
+/// The value with this number, or n past the last one.
 fn trit_at(list: &[Trit], number: u32) -> Trit
     ensures { result ≡ slice_index_or list.now number Trit.N }
 {
@@ -61,7 +61,7 @@ impl Config {
 }
 
 impl Config {
-    /// Gives a symbol another value.
+    /// Sets the value of a symbol.
     pub fn set_value(&mut self, sym: u32, value: Trit)
         requires { sym < length self.old.values }
         ensures value { configuration_of self.new ≡ with_value (configuration_of self.old) sym (rank value) }
@@ -70,7 +70,7 @@ impl Config {
         self.values.set(sym as usize, value);
     }
 
-    /// Gives a choice another mode.
+    /// Sets the mode of a choice.
     pub fn set_mode(&mut self, choice: u32, mode: Trit)
         requires { choice < length self.old.modes }
         ensures mode { configuration_of self.new ≡ with_mode (configuration_of self.old) choice (rank mode) }

@@ -4,7 +4,7 @@ ghost use Rattle.kconf_tree.specs.Orders.{IsOrder};
 ghost use Rattle.kconf_tree.specs.Shape.{Shape};
 ghost use Rattle.kconf_tree.specs.Valid.{KeepsRules};
 ghost use Rattle.kconf_tree.specs.Value.{Configuration};
-ghost use Rattle.kconf_tree.specs.Made.{IsWellMade};
+ghost use Rattle.kconf_tree.specs.WellMade.{IsWellMade};
 ghost use Rattle.complete_conf.specs.Parts.{IsClosedPart, IsKeptBy, IsRightPart, Part};
 
 /// Law: however undeclared names are read, a part that is closed under references, and each node of which

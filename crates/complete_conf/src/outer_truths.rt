@@ -1,5 +1,6 @@
 ghost use Rattle.std.specs.Prelude.{◌≡◌};
 ghost use Rattle.ut_logic.specs.Trit.{rank};
+ghost use Rattle.kconf_entries.specs.Written.{comparison_text};
 ghost use Rattle.kconf_tree.specs.Value as spec;
 ghost use Rattle.complete_conf.specs.Config.{configuration_of};
 ghost use Rattle.complete_conf.specs.Inner.{truth_of};
@@ -14,8 +15,14 @@ fn truth(config: &Config, number: Option<u64>) -> Trit
     ensures { rank result ≡ truth_of (configuration_of config.now) number }
 {
     match number {
-        Some(number) if config.outer(number) => Trit::Y,
-        _ => Trit::N,
+        None => Trit::N,
+        Some(number) => {
+            if config.outer(number) {
+                Trit::Y
+            } else {
+                Trit::N
+            }
+        }
     }
 }
 
@@ -28,7 +35,7 @@ pub fn outer_value(tree: &Tree, config: &Config, text: &str) -> Trit
 
 /// The value of a comparison that is an outer condition.
 pub fn comparison_value(tree: &Tree, config: &Config, left: &Side, sign: Sign, right: &Side) -> Trit
-    ensures { rank result ≡ spec.outer_value tree.now.shape (configuration_of config.now) (spec.comparison_text left.now sign right.now) }
+    ensures { rank result ≡ spec.outer_value tree.now.shape (configuration_of config.now) (comparison_text left.now sign right.now) }
 {
     truth(config, tree.comparison_number(left, sign, right))
 }

@@ -10,19 +10,19 @@ use crate::values::{own_value, value_in};
 use kconf_tree::{Place, Selector, Tree};
 use ut_logic::{Trit, trit_and, trit_or};
 
-/// How far a select raises its target.
+/// The value that a select raises its target to.
 fn selected(tree: &Tree, config: &Config, selector: Selector) -> Trit
     requires { IsSelector tree.now.shape selector }
     ensures { rank result ≡ spec.selected_by tree.now.shape (configuration_of config.now) (selecting_of tree.now.shape selector) }
 {
-    let select = &tree.selects(selector.by)[selector.nth];
+    let condition = tree.select_condition(selector);
     trit_and(
         own_value(tree, config, selector.by),
-        value_in(tree, config, Place::Condition, &select.cond),
+        value_in(tree, config, Place::Condition, condition),
     )
 }
 
-/// How far selects raise their target.
+/// The value that selects together raise their target to.
 fn raised(tree: &Tree, config: &Config, selectors: &[Selector]) -> Trit
     requires { All (IsSelector tree.now.shape) selectors.now }
     ensures { rank result ≡ value.greatest (map (λ s. spec.selected_by tree.now.shape (configuration_of config.now) (selecting_of tree.now.shape s)) selectors.now) }

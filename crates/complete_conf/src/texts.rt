@@ -28,7 +28,7 @@ fn push_value(text: &mut Vec<u8>, name: &str, value: Trit) -> Result<(), AllocEr
     }
 }
 
-/// Writes the line of a symbol, if it has one.
+/// Writes the line of a symbol that counts as bool or tristate, and nothing for any other.
 fn push_symbol(text: &mut Vec<u8>, tree: &Tree, config: &Config, sym: u32) -> Result<(), AllocError>
     requires sym { sym < length tree.now.shape.symbols }
     ensures { OnOk result (text.new.items ≡ text.old.items ++ spec.symbol_line tree.now.shape (configuration_of config.now) sym) }
@@ -40,7 +40,7 @@ fn push_symbol(text: &mut Vec<u8>, tree: &Tree, config: &Config, sym: u32) -> Re
 }
 
 /// The text of a configuration: a line for each symbol that counts as bool or tristate, in order. The
-/// only error is want of memory.
+/// only error is out of memory.
 pub fn config_text(alloc: Global, tree: &Tree, config: &Config) -> Result<Vec<u8>, AllocError>
     requires fits { FitsTree tree.now.shape config.now }
     ensures { IfOk result (λ text. text.items ≡ spec.text_of tree.now.shape (configuration_of config.now)) }

@@ -9,7 +9,7 @@ ghost use Rattle.kconf_tree.specs.Right.{IsRight};
 use crate::calculating::is_right;
 use crate::choosing::can_be_y;
 use crate::config::Config;
-use crate::limits::choice_visibility;
+use crate::properties::choice_visibility;
 use kconf_tree::Tree;
 use ut_logic::Trit;
 
@@ -47,7 +47,7 @@ fn mode_is_allowed(optional: bool, visibility: Trit, mode: Trit) -> bool
     }
 }
 
-/// Whether a member that is y can be, and every other is n.
+/// Whether a member is n, or is y and can be.
 fn member_fits(tree: &Tree, config: &Config, member: u32) -> bool
     ensures { result ≡ (if spec.is_y (configuration_of config.now) member then spec.can_be_y tree.now.shape (configuration_of config.now) member else spec.is_n (configuration_of config.now) member) }
 {
@@ -81,7 +81,7 @@ fn some_can_be_y(tree: &Tree, config: &Config, members: &[u32]) -> bool
     false
 }
 
-/// How many members are y.
+/// The number of members that are y.
 fn count_y(config: &Config, members: &[u32]) -> usize
     ensures { result ≡ length (filter (spec.is_y (configuration_of config.now)) members.now) }
 {
@@ -113,8 +113,9 @@ fn choice_is_right(tree: &Tree, config: &Config, choice: u32) -> bool
 {
     let mode = config.mode(choice);
     let visibility = choice_visibility(tree, config, choice);
-    mode_is_allowed(tree.optional(choice), visibility, mode)
-        && keeps_mode(tree, config, mode, tree.members(choice))
+    let choice = tree.choice_at(choice);
+    mode_is_allowed(choice.optional, visibility, mode)
+        && keeps_mode(tree, config, mode, choice.members.as_slice())
 }
 
 /// Whether each choice keeps its rules.

@@ -72,13 +72,13 @@ fn side_value(tree: &Tree, config: &Config, side: &Side) -> Trit
     }
 }
 
-/// y where two values compare so, else n.
+/// y where the comparison of two values holds, else n.
 fn compared(sign: Sign, a: Trit, b: Trit) -> Trit
     ensures { rank result ≡ spec.compared sign (rank a) (rank b) }
 {
     let same = match sign {
         Sign::Same => a == b,
-        _ => a != b,
+        Sign::Differ | Sign::Less | Sign::More | Sign::LessSame | Sign::MoreSame => a != b,
     };
     if same { Trit::Y } else { Trit::N }
 }

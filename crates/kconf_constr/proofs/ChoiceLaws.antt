@@ -17,7 +17,7 @@ use Rattle.kconf_tree.specs.Valid.{is_y, is_n, can_be_y, allows_mode, is_right_c
 use Rattle.kconf_constr.specs.Scope.{Scope}
 use Rattle.kconf_constr.specs.Stands.{configuration_of, value_as}
 use Rattle.kconf_constr.specs.ChoiceFormulas.{seen, choice_seen, mode_holds, members_hold, not_both, pairs, are_y, some_holds, choice_holds}
-use Rattle.kconf_constr.proofs.LimitLaws.{all_append, prompts_stand, visibility_stands}
+use Rattle.kconf_constr.proofs.PropertyLaws.{all_append, prompts_stand, visibility_stands}
 use Rattle.kconf_constr.proofs.MemberTests.{each_can, per_test, apart_test, pairs_test, some_test, mode_test, per_is, some_is, whole_law}
 
 module _ (s : Scope) (v : Item → Bool) where

@@ -16,7 +16,7 @@ use Rattle.ut_logic.specs.Truth.{mentioned, together}
 use Rattle.kconf_tree.specs.Shape.{Shape, symbol_at, choice_at, counts_as}
 use Rattle.kconf_tree.specs.References.{node_of, symbol_references, choice_references}
 use Rattle.kconf_constr.specs.Scope.{Scope}
-use Rattle.kconf_constr.specs.SymbolFormulas.{free_symbol_holds}
+use Rattle.kconf_constr.specs.SymbolFormulas.{non_member_holds}
 use Rattle.kconf_constr.specs.FactsOf.{own_items, is_loose, loose_items, names_by, choice_fact, facts_of}
 use Rattle.kconf_constr.specs.Closed.{Reaches, IsReached, IsClosed}
 use Rattle.kconf_constr.proofs.Lists.{weaker, has_mapped}
@@ -74,10 +74,10 @@ module _ (s : Scope) where
   abbrev fact_as : ℕ → Option ℕ → Fact
   fact_as k o = record {
     node = Sym k;
-    holds = cond (is_some o) [] (free_symbol_holds s k);
+    holds = cond (is_some o) [] (non_member_holds s k);
     defines = [];
     names = names_by s.shape k o;
-    items = own_items (counts_as s.shape k) k ++ loose_items (cond (is_some o) [] (free_symbol_holds s k));
+    items = own_items (counts_as s.shape k) k ++ loose_items (cond (is_some o) [] (non_member_holds s k));
   }
 
   closed_as : (k : ℕ) (o : Option ℕ) → IsClosed s.shape (fact_as k o)

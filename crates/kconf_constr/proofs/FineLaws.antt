@@ -29,13 +29,14 @@ use Rattle.kconf_tree.specs.declared.shape.Counts.TheVariants as counts
 use Rattle.kconf_tree.specs.declared.place.Place.{Place}
 use Rattle.kconf_tree.specs.declared.place.Place.TheVariants.{Condition, Value}
 use Rattle.kconf_tree.specs.Shape.{number_of, outer_at, counts_as}
-use Rattle.kconf_tree.specs.Value.{compares_trits, comparison_text}
+use Rattle.kconf_entries.specs.Written.{comparison_text}
+use Rattle.kconf_tree.specs.Value.{compares_trits}
 use Rattle.kconf_tree.specs.References.{numbers_in, numbers_step, side_numbers, const_numbers}
 use Rattle.kconf_tree.proofs.Small.{or_cases}
-use Rattle.kconf_constr.specs.declared.half.Half.{Half}
-use Rattle.kconf_constr.specs.declared.half.Half.TheVariants.{NotN, IsY}
+use Rattle.kconf_constr.specs.declared.level.Level.{Level}
+use Rattle.kconf_constr.specs.declared.level.Level.TheVariants.{NotN, IsY}
 use Rattle.kconf_constr.specs.Scope.{Scope, number_among}
-use Rattle.kconf_constr.specs.Halves.{Halves, both, halves, halves_step, half_of, value_halves, const_halves, own_halves_as, named_halves, free_formula, outer_formula, modules_formula, side_halves, same, compared}
+use Rattle.kconf_constr.specs.Levels.{Levels, both, levels, levels_step, at_level, value_levels, const_levels, own_levels_as, named_levels, undeclared_formula, outer_formula, modules_formula, side_levels, same, compared}
 use Rattle.kconf_constr.proofs.Lists.{front, back}
 
 -- an item of a symbol or a choice that passes, or a loose one
@@ -113,13 +114,13 @@ module _ (Q R : ℕ → Type 0) where
   fine_two f g a b = fine_cons f (g ∷ []) a (fine_one g b)
 
   -- both formulas
-  pub record BothFine (h : Halves) : Type 0 where
+  pub record BothFine (h : Levels) : Type 0 where
     pub not_n : Fine h.not_n
     pub is_y : Fine h.is_y
 
-  pub fine_half : (h : Half) (a : Halves) → BothFine a → Fine (half_of h a)
-  fine_half NotN a b = b.not_n
-  fine_half IsY a b = b.is_y
+  pub fine_at : (h : Level) (a : Levels) → BothFine a → Fine (at_level h a)
+  fine_at NotN a b = b.not_n
+  fine_at IsY a b = b.is_y
 
   pub fine_both : (f : Formula) → Fine f → BothFine (both f)
   fine_both f a = record { not_n = a; is_y = a }
@@ -132,7 +133,7 @@ module _ (Q R : ℕ → Type 0) where
 
   -- ---- names and constants
 
-  pub own_fine : (kind : Counts) (k : ℕ) → Q k → BothFine (own_halves_as kind k)
+  pub own_fine : (kind : Counts) (k : ℕ) → Q k → BothFine (own_levels_as kind k)
   own_fine counts.Bool k q = fine_both (Is (item.SymY k)) (fine_item (item.SymY k) q)
   own_fine counts.Tristate k q = record {
     not_n = fine_any (Is (item.SymY k) ∷ Is (item.SymM k) ∷ []) (fine_two (Is (item.SymY k)) (Is (item.SymM k)) (fine_item (item.SymY k) q) (fine_item (item.SymM k) q));
@@ -140,9 +141,9 @@ module _ (Q R : ℕ → Type 0) where
   }
   own_fine counts.Neither k q = both_no
 
-  free_fine : (o : Option ℕ) → Fine (free_formula o)
-  free_fine None = fine_no
-  free_fine (Some k) = fine_item (item.Undeclared k) tt
+  undeclared_fine : (o : Option ℕ) → Fine (undeclared_formula o)
+  undeclared_fine None = fine_no
+  undeclared_fine (Some k) = fine_item (item.Undeclared k) tt
 
   outer_fine : (o : Option ℕ) → Fine (outer_formula o)
   outer_fine None = fine_no
@@ -152,12 +153,12 @@ module _ (Q R : ℕ → Type 0) where
   modules_fine None h = fine_no
   modules_fine (Some k) h = fine_item (item.SymY k) h.0
 
-  value_fine : (x : Trit) → BothFine (value_halves x)
+  value_fine : (x : Trit) → BothFine (value_levels x)
   value_fine N = both_no
   value_fine M = record { not_n = fine_yes; is_y = fine_no }
   value_fine Y = both_yes
 
-  same_fine : (a b : Halves) → BothFine a → BothFine b → Fine (same a b)
+  same_fine : (a b : Levels) → BothFine a → BothFine b → Fine (same a b)
   same_fine a b p q = let y : Formula = all_of (a.is_y ∷ b.is_y ∷ []) in let n : Formula = all_of (not_of a.not_n ∷ not_of b.not_n ∷ []) in
       let m : Formula = all_of (a.not_n ∷ not_of a.is_y ∷ b.not_n ∷ not_of b.is_y ∷ []) in
       fine_any (y ∷ n ∷ m ∷ []) (fine_cons y (n ∷ m ∷ []) (fine_all (a.is_y ∷ b.is_y ∷ []) (fine_two a.is_y b.is_y p.is_y q.is_y))
@@ -176,54 +177,54 @@ module _ (Q R : ℕ → Type 0) where
   -- ---- expressions
 
   module _ (s : Scope) where
-    name_fine : (name : List ℕ) (o : Option ℕ) → AllByRecursion Q (option_to_list o) → BothFine (named_halves s name o)
-    name_fine name None h = fine_both (free_formula (number_among s.free name)) (free_fine (number_among s.free name))
+    name_fine : (name : List ℕ) (o : Option ℕ) → AllByRecursion Q (option_to_list o) → BothFine (named_levels s name o)
+    name_fine name None h = fine_both (undeclared_formula (number_among s.undeclared name)) (undeclared_fine (number_among s.undeclared name))
     name_fine name (Some k) h = own_fine (counts_as s.shape k) k h.0
 
-    const_fine : (p : Place) (x : Trit) → AllByRecursion Q (const_numbers s.shape p x) → BothFine (const_halves s p x)
+    const_fine : (p : Place) (x : Trit) → AllByRecursion Q (const_numbers s.shape p x) → BothFine (const_levels s p x)
     const_fine Value x h = value_fine x
     const_fine Condition N h = both_no
     const_fine Condition M h = record { not_n = modules_fine s.shape.modules h; is_y = fine_no }
     const_fine Condition Y h = both_yes
 
-    side_fine : (d : Side) → AllByRecursion Q (side_numbers s.shape d) → BothFine (side_halves s d)
+    side_fine : (d : Side) → AllByRecursion Q (side_numbers s.shape d) → BothFine (side_levels s d)
     side_fine (side.Const x) h = value_fine x
     side_fine (side.Name name) h = name_fine name (number_of s.shape name) h
     side_fine (side.Literal text) h = both_no
     side_fine (side.Quoted text) h = both_no
 
-    compare_fine : (l r : Side) (g : Sign) (b : Bool) → AllByRecursion Q (cond b (side_numbers s.shape l ++ side_numbers s.shape r) []) → Fine (cond b (compared g (same (side_halves s l) (side_halves s r))) (outer_formula (outer_at s.shape (comparison_text l g r))))
-    compare_fine l r g true h = compared_fine g (same (side_halves s l) (side_halves s r)) (same_fine (side_halves s l) (side_halves s r)
+    compare_fine : (l r : Side) (g : Sign) (b : Bool) → AllByRecursion Q (cond b (side_numbers s.shape l ++ side_numbers s.shape r) []) → Fine (cond b (compared g (same (side_levels s l) (side_levels s r))) (outer_formula (outer_at s.shape (comparison_text l g r))))
+    compare_fine l r g true h = compared_fine g (same (side_levels s l) (side_levels s r)) (same_fine (side_levels s l) (side_levels s r)
         (side_fine l (front Q (side_numbers s.shape l) (side_numbers s.shape r) h)) (side_fine r (back Q (side_numbers s.shape l) (side_numbers s.shape r) h)))
     compare_fine l r g false h = outer_fine (outer_at s.shape (comparison_text l g r))
 
     module _ (p : Place) where
       abbrev pub IsFine : Expr → Type 0
-      IsFine e = AllByRecursion Q (numbers_in s.shape p e) → BothFine (halves s p e)
+      IsFine e = AllByRecursion Q (numbers_in s.shape p e) → BothFine (levels s p e)
 
       abbrev Each : Type 0
       Each = (e : Expr) × IsFine e
 
-      lists_fine : (h : Half) (es : List Each) → AllByRecursion Q (flat_map (λ ks. ks) (map (numbers_in s.shape p) (map (λ e. e.0) es))) → AllFine (map (half_of h) (map (halves s p) (map (λ e. e.0) es)))
+      lists_fine : (h : Level) (es : List Each) → AllByRecursion Q (flat_map (λ ks. ks) (map (numbers_in s.shape p) (map (λ e. e.0) es))) → AllFine (map (at_level h) (map (levels s p) (map (λ e. e.0) es)))
       lists_fine h [] a = fine_nil
-      lists_fine h (e ∷ es) a = fine_cons (half_of h (halves s p e.0)) (map (half_of h) (map (halves s p) (map (λ e. e.0) es)))
-          (fine_half h (halves s p e.0) (e.1 (front Q (numbers_in s.shape p e.0) (flat_map (λ ks. ks) (map (numbers_in s.shape p) (map (λ e. e.0) es))) a)))
+      lists_fine h (e ∷ es) a = fine_cons (at_level h (levels s p e.0)) (map (at_level h) (map (levels s p) (map (λ e. e.0) es)))
+          (fine_at h (levels s p e.0) (e.1 (front Q (numbers_in s.shape p e.0) (flat_map (λ ks. ks) (map (numbers_in s.shape p) (map (λ e. e.0) es))) a)))
           (lists_fine h es (back Q (numbers_in s.shape p e.0) (flat_map (λ ks. ks) (map (numbers_in s.shape p) (map (λ e. e.0) es))) a))
 
       abbrev StepFine : Expr-F Expr → Type 0
-      StepFine z = AllByRecursion Q (numbers_step s.shape p (map-Expr Expr (List ℕ) (numbers_in s.shape p) z)) → BothFine (halves_step s p (map-Expr Expr Halves (halves s p) z))
+      StepFine z = AllByRecursion Q (numbers_step s.shape p (map-Expr Expr (List ℕ) (numbers_in s.shape p) z)) → BothFine (levels_step s p (map-Expr Expr Levels (levels s p) z))
 
       step : (y : Expr-F Each) → StepFine (map-Expr Each Expr (λ e. e.0) y)
       step (Expr-F.Const x) a = const_fine p x a
       step (Expr-F.Name name) a = name_fine name (number_of s.shape name) a
       step (Expr-F.Outer text) a = fine_both (outer_formula (outer_at s.shape text)) (outer_fine (outer_at s.shape text))
-      step (Expr-F.Compare left g right) a = fine_both (cond (compares_trits s.shape left g right) (compared g (same (side_halves s left) (side_halves s right))) (outer_formula (outer_at s.shape (comparison_text left g right)))) (compare_fine left right g (compares_trits s.shape left g right) a)
-      step (Expr-F.Neg e) a = let b = e.1 a in record { not_n = fine_not (halves s p e.0).is_y b.is_y; is_y = fine_not (halves s p e.0).not_n b.not_n }
-      step (Expr-F.And es) a = record { not_n = fine_all (map (half_of NotN) (map (halves s p) (map (λ e. e.0) es))) (lists_fine NotN es a); is_y = fine_all (map (half_of IsY) (map (halves s p) (map (λ e. e.0) es))) (lists_fine IsY es a) }
-      step (Expr-F.Or es) a = record { not_n = fine_any (map (half_of NotN) (map (halves s p) (map (λ e. e.0) es))) (lists_fine NotN es a); is_y = fine_any (map (half_of IsY) (map (halves s p) (map (λ e. e.0) es))) (lists_fine IsY es a) }
+      step (Expr-F.Compare left g right) a = fine_both (cond (compares_trits s.shape left g right) (compared g (same (side_levels s left) (side_levels s right))) (outer_formula (outer_at s.shape (comparison_text left g right)))) (compare_fine left right g (compares_trits s.shape left g right) a)
+      step (Expr-F.Neg e) a = let b = e.1 a in record { not_n = fine_not (levels s p e.0).is_y b.is_y; is_y = fine_not (levels s p e.0).not_n b.not_n }
+      step (Expr-F.And es) a = record { not_n = fine_all (map (at_level NotN) (map (levels s p) (map (λ e. e.0) es))) (lists_fine NotN es a); is_y = fine_all (map (at_level IsY) (map (levels s p) (map (λ e. e.0) es))) (lists_fine IsY es a) }
+      step (Expr-F.Or es) a = record { not_n = fine_any (map (at_level NotN) (map (levels s p) (map (λ e. e.0) es))) (lists_fine NotN es a); is_y = fine_any (map (at_level IsY) (map (levels s p) (map (λ e. e.0) es))) (lists_fine IsY es a) }
 
       rolled : (x : Expr-F Expr) → StepFine x → IsFine (roll-Expr x)
-      rolled x h = rw (fold-roll-Expr Halves (halves_step s p) x, fold-roll-Expr (List ℕ) (numbers_step s.shape p) x) h
+      rolled x h = rw (fold-roll-Expr Levels (levels_step s p) x, fold-roll-Expr (List ℕ) (numbers_step s.shape p) x) h
 
       pub expr_fine : (e : Expr) → IsFine e
       expr_fine = ind-Expr IsFine (λ x y is. rolled x (subst StepFine is (step y)))

@@ -13,66 +13,66 @@ use Rattle.kconf_tree.specs.Shape.{Selecting}
 use Rattle.kconf_tree.specs.declared.place.Place.TheVariants.{Condition, Value}
 use Rattle.kconf_tree.specs.Shape.{symbol_at, choice_at, counts_as, counts_alone, selectors_of, impliers_of}
 use Rattle.kconf_tree.specs.References.{numbers_in, in_conditions, of_default, of_selector, of_type, of_implied, own_references, symbol_references, of_choice_default, choice_references}
-use Rattle.kconf_constr.specs.declared.half.Half.{Half}
-use Rattle.kconf_constr.specs.declared.half.Half.TheVariants.{NotN, IsY}
+use Rattle.kconf_constr.specs.declared.level.Level.{Level}
+use Rattle.kconf_constr.specs.declared.level.Level.TheVariants.{NotN, IsY}
 use Rattle.kconf_constr.specs.Scope.{Scope}
-use Rattle.kconf_constr.specs.Halves.{halves, half_of, own_halves, modules_formula}
-use Rattle.kconf_constr.specs.Limits.{prompts_halves, condition_half, selected_half, is_passed, default_part, default_parts, default_half}
-use Rattle.kconf_constr.specs.SymbolFormulas.{Limits, limits_of, raised, allowed, kept, base_holds, one_holds, y_raised, y_allowed, y_kept, y_holds, holds_as, free_symbol_holds}
+use Rattle.kconf_constr.specs.Levels.{levels, at_level, own_levels, modules_formula}
+use Rattle.kconf_constr.specs.PropertyFormulas.{prompts_levels, condition_at, selected_at, is_passed, default_part, default_parts, default_at}
+use Rattle.kconf_constr.specs.SymbolFormulas.{Properties, properties_of, raised, allowed, kept, base_holds, one_holds, y_raised, y_allowed, y_kept, y_holds, holds_as, non_member_holds}
 use Rattle.kconf_constr.specs.ChoiceFormulas.{seen, choice_seen, mode_holds, member_holds, members_hold, not_both, pairs, are_y, some_holds, choice_holds}
 use Rattle.kconf_constr.proofs.Lists.{front, back}
-use Rattle.kconf_constr.proofs.FineLaws.{Fine, AllFine, BothFine, fine_item, fine_nil, fine_cons, fine_append, fine_all, fine_any, fine_not, fine_one, fine_two, fine_half, own_fine, modules_fine, expr_fine}
+use Rattle.kconf_constr.proofs.FineLaws.{Fine, AllFine, BothFine, fine_item, fine_nil, fine_cons, fine_append, fine_all, fine_any, fine_not, fine_one, fine_two, fine_at, own_fine, modules_fine, expr_fine}
 
 module _ (Q R : ℕ → Type 0) (s : Scope) where
-  -- ---- limits
+  -- ---- visibility, reverse dependency and default
 
-  halves_fine : (h : Half) (es : List Expr) → AllByRecursion Q (in_conditions s.shape es) → AllFine Q R (map (half_of h) (map (halves s Condition) es))
-  halves_fine h [] a = fine_nil Q R
-  halves_fine h (e ∷ es) a = fine_cons Q R (half_of h (halves s Condition e)) (map (half_of h) (map (halves s Condition) es))
-      (fine_half Q R h (halves s Condition e) (expr_fine Q R s Condition e (front Q (numbers_in s.shape Condition e) (in_conditions s.shape es) a)))
-      (halves_fine h es (back Q (numbers_in s.shape Condition e) (in_conditions s.shape es) a))
+  levels_fine : (h : Level) (es : List Expr) → AllByRecursion Q (in_conditions s.shape es) → AllFine Q R (map (at_level h) (map (levels s Condition) es))
+  levels_fine h [] a = fine_nil Q R
+  levels_fine h (e ∷ es) a = fine_cons Q R (at_level h (levels s Condition e)) (map (at_level h) (map (levels s Condition) es))
+      (fine_at Q R h (levels s Condition e) (expr_fine Q R s Condition e (front Q (numbers_in s.shape Condition e) (in_conditions s.shape es) a)))
+      (levels_fine h es (back Q (numbers_in s.shape Condition e) (in_conditions s.shape es) a))
 
-  prompts_fine : (es : List Expr) → AllByRecursion Q (in_conditions s.shape es) → BothFine Q R (prompts_halves s es)
+  prompts_fine : (es : List Expr) → AllByRecursion Q (in_conditions s.shape es) → BothFine Q R (prompts_levels s es)
   prompts_fine es a = record {
-    not_n = fine_any Q R (map (half_of NotN) (map (halves s Condition) es)) (halves_fine NotN es a);
-    is_y = fine_any Q R (map (half_of IsY) (map (halves s Condition) es)) (halves_fine IsY es a);
+    not_n = fine_any Q R (map (at_level NotN) (map (levels s Condition) es)) (levels_fine NotN es a);
+    is_y = fine_any Q R (map (at_level IsY) (map (levels s Condition) es)) (levels_fine IsY es a);
   }
 
-  condition_fine : (h : Half) (e : Expr) → AllByRecursion Q (numbers_in s.shape Condition e) → Fine Q R (condition_half s h e)
-  condition_fine h e a = fine_half Q R h (halves s Condition e) (expr_fine Q R s Condition e a)
+  condition_fine : (h : Level) (e : Expr) → AllByRecursion Q (numbers_in s.shape Condition e) → Fine Q R (condition_at s h e)
+  condition_fine h e a = fine_at Q R h (levels s Condition e) (expr_fine Q R s Condition e a)
 
-  selected_fine : (h : Half) (x : Selecting) → AllByRecursion Q (of_selector s.shape x) → Fine Q R (selected_half s h x)
-  selected_fine h x a = fine_all Q R (half_of h (own_halves s x.by) ∷ condition_half s h x.cond ∷ [])
-      (fine_two Q R (half_of h (own_halves s x.by)) (condition_half s h x.cond) (fine_half Q R h (own_halves s x.by) (own_fine Q R (counts_as s.shape x.by) x.by a.0)) (condition_fine h x.cond a.1))
+  selected_fine : (h : Level) (x : Selecting) → AllByRecursion Q (of_selector s.shape x) → Fine Q R (selected_at s h x)
+  selected_fine h x a = fine_all Q R (at_level h (own_levels s x.by) ∷ condition_at s h x.cond ∷ [])
+      (fine_two Q R (at_level h (own_levels s x.by)) (condition_at s h x.cond) (fine_at Q R h (own_levels s x.by) (own_fine Q R (counts_as s.shape x.by) x.by a.0)) (condition_fine h x.cond a.1))
 
-  selects_fine : (h : Half) (xs : List Selecting) → AllByRecursion Q (flat_map (of_selector s.shape) xs) → AllFine Q R (map (selected_half s h) xs)
+  selects_fine : (h : Level) (xs : List Selecting) → AllByRecursion Q (flat_map (of_selector s.shape) xs) → AllFine Q R (map (selected_at s h) xs)
   selects_fine h [] a = fine_nil Q R
-  selects_fine h (x ∷ xs) a = fine_cons Q R (selected_half s h x) (map (selected_half s h) xs)
+  selects_fine h (x ∷ xs) a = fine_cons Q R (selected_at s h x) (map (selected_at s h) xs)
       (selected_fine h x (front Q (of_selector s.shape x) (flat_map (of_selector s.shape) xs) a)) (selects_fine h xs (back Q (of_selector s.shape x) (flat_map (of_selector s.shape) xs) a))
 
-  parts_fine : (h : Half) (passed : List Formula) (ds : List DefaultOf) → AllFine Q R passed → AllByRecursion Q (flat_map (of_default s.shape) ds) → AllFine Q R (default_parts s h passed ds)
+  parts_fine : (h : Level) (passed : List Formula) (ds : List DefaultOf) → AllFine Q R passed → AllByRecursion Q (flat_map (of_default s.shape) ds) → AllFine Q R (default_parts s h passed ds)
   parts_fine h passed [] p a = fine_nil Q R
   parts_fine h passed (d ∷ ds) p a = let first = front Q (of_default s.shape d) (flat_map (of_default s.shape) ds) a in
       let cond = front Q (numbers_in s.shape Condition d.cond) (numbers_in s.shape Value d.value) first in
       let value = back Q (numbers_in s.shape Condition d.cond) (numbers_in s.shape Value d.value) first in
       fine_cons Q R (default_part s h passed d) (default_parts s h (passed ++ (is_passed s d ∷ [])) ds)
-      (fine_all Q R (passed ++ (condition_half s h d.cond ∷ half_of h (halves s Value d.value) ∷ [])) (fine_append Q R passed (condition_half s h d.cond ∷ half_of h (halves s Value d.value) ∷ []) p
-      (fine_two Q R (condition_half s h d.cond) (half_of h (halves s Value d.value)) (condition_fine h d.cond cond) (fine_half Q R h (halves s Value d.value) (expr_fine Q R s Value d.value value)))))
-      (parts_fine h (passed ++ (is_passed s d ∷ [])) ds (fine_append Q R passed (is_passed s d ∷ []) p (fine_one Q R (is_passed s d) (fine_not Q R (condition_half s NotN d.cond) (condition_fine NotN d.cond cond))))
+      (fine_all Q R (passed ++ (condition_at s h d.cond ∷ at_level h (levels s Value d.value) ∷ [])) (fine_append Q R passed (condition_at s h d.cond ∷ at_level h (levels s Value d.value) ∷ []) p
+      (fine_two Q R (condition_at s h d.cond) (at_level h (levels s Value d.value)) (condition_fine h d.cond cond) (fine_at Q R h (levels s Value d.value) (expr_fine Q R s Value d.value value)))))
+      (parts_fine h (passed ++ (is_passed s d ∷ [])) ds (fine_append Q R passed (is_passed s d ∷ []) p (fine_one Q R (is_passed s d) (fine_not Q R (condition_at s NotN d.cond) (condition_fine NotN d.cond cond))))
       (back Q (of_default s.shape d) (flat_map (of_default s.shape) ds) a))
 
-  default_fine : (h : Half) (ds : List DefaultOf) → AllByRecursion Q (flat_map (of_default s.shape) ds) → Fine Q R (default_half s h ds)
+  default_fine : (h : Level) (ds : List DefaultOf) → AllByRecursion Q (flat_map (of_default s.shape) ds) → Fine Q R (default_at s h ds)
   default_fine h ds a = fine_any Q R (default_parts s h [] ds) (parts_fine h [] ds (fine_nil Q R) a)
 
   -- ---- symbols
 
-  record LimitsFine (l : Limits) : Type 0 where
+  record PropertiesFine (l : Properties) : Type 0 where
     of_own : BothFine Q R l.own
     of_vis : BothFine Q R l.vis
     of_rev : BothFine Q R l.rev
     of_def : BothFine Q R l.def
 
-  base_fine : (l : Limits) → LimitsFine l → AllFine Q R (base_holds l)
+  base_fine : (l : Properties) → PropertiesFine l → AllFine Q R (base_holds l)
   base_fine l f = fine_cons Q R (raised l) (allowed l ∷ kept l ∷ [])
       (fine_any Q R (not_of l.rev.not_n ∷ l.own.not_n ∷ []) (fine_two Q R (not_of l.rev.not_n) l.own.not_n (fine_not Q R l.rev.not_n f.of_rev.not_n) f.of_own.not_n))
       (fine_two Q R (allowed l) (kept l)
@@ -80,7 +80,7 @@ module _ (Q R : ℕ → Type 0) (s : Scope) where
       (fine_cons Q R l.vis.not_n (l.def.not_n ∷ l.rev.not_n ∷ []) f.of_vis.not_n (fine_two Q R l.def.not_n l.rev.not_n f.of_def.not_n f.of_rev.not_n))))
       (fine_any Q R (l.vis.not_n ∷ not_of l.def.not_n ∷ l.own.not_n ∷ []) (fine_cons Q R l.vis.not_n (not_of l.def.not_n ∷ l.own.not_n ∷ []) f.of_vis.not_n (fine_two Q R (not_of l.def.not_n) l.own.not_n (fine_not Q R l.def.not_n f.of_def.not_n) f.of_own.not_n))))
 
-  y_fine : (on : Formula) (k : ℕ) (l : Limits) → Fine Q R on → Q k → LimitsFine l → AllFine Q R (y_holds on k l)
+  y_fine : (on : Formula) (k : ℕ) (l : Properties) → Fine Q R on → Q k → PropertiesFine l → AllFine Q R (y_holds on k l)
   y_fine on k l m q f = let y = fine_item Q R (item.SymY k) q in fine_cons Q R (y_raised k l) (y_allowed on k l ∷ y_kept k l ∷ [])
       (fine_any Q R (not_of l.rev.is_y ∷ Is (item.SymY k) ∷ []) (fine_two Q R (not_of l.rev.is_y) (Is (item.SymY k)) (fine_not Q R l.rev.is_y f.of_rev.is_y) y))
       (fine_two Q R (y_allowed on k l) (y_kept k l)
@@ -94,7 +94,7 @@ module _ (Q R : ℕ → Type 0) (s : Scope) where
       (fine_any Q R (not_of (Is (item.SymY k)) ∷ not_of (Is (item.SymM k)) ∷ []) (fine_two Q R (not_of (Is (item.SymY k))) (not_of (Is (item.SymM k))) not_y not_m))
       (fine_any Q R (not_of (Is (item.SymM k)) ∷ on ∷ []) (fine_two Q R (not_of (Is (item.SymM k))) on not_m m))
 
-  kind_fine : (kind : Counts) (k : ℕ) (l : Limits) → AllByRecursion Q (of_type s.shape kind) → Q k → LimitsFine l → AllFine Q R (holds_as kind (modules_formula s.shape.modules) k l)
+  kind_fine : (kind : Counts) (k : ℕ) (l : Properties) → AllByRecursion Q (of_type s.shape kind) → Q k → PropertiesFine l → AllFine Q R (holds_as kind (modules_formula s.shape.modules) k l)
   kind_fine counts.Bool k l a q f = base_fine l f
   kind_fine counts.Tristate k l a q f = let on = modules_formula s.shape.modules in let m = modules_fine Q R s.shape.modules a in
       fine_append Q R (one_holds on k ++ base_holds l) (y_holds on k l) (fine_append Q R (one_holds on k) (base_holds l) (one_fine on k m q) (base_fine l f)) (y_fine on k l m q f)
@@ -129,13 +129,13 @@ module _ (Q R : ℕ → Type 0) (s : Scope) where
     abbrev implying : List ℕ
     implying = flat_map (of_selector s.shape) (impliers_of s.shape k)
 
-    pub symbol_fine : Q k → AllByRecursion Q (symbol_references s.shape k) → AllFine Q R (free_symbol_holds s k)
+    pub symbol_fine : Q k → AllByRecursion Q (symbol_references s.shape k) → AllFine Q R (non_member_holds s k)
     symbol_fine q a = let rest = front Q (own_references s.shape k ++ selecting) implying a in
         let own = front Q (own_references s.shape k) selecting rest in let selects = back Q (own_references s.shape k) selecting rest in
-        kind_fine (counts_as s.shape k) k (limits_of s k) (type_part own) q (record {
+        kind_fine (counts_as s.shape k) k (properties_of s k) (type_part own) q (record {
           of_own = own_fine Q R (counts_as s.shape k) k q;
           of_vis = prompts_fine (symbol_at s.shape k).prompts (prompts_part own);
-          of_rev = record { not_n = fine_any Q R (map (selected_half s NotN) (selectors_of s.shape k)) (selects_fine NotN (selectors_of s.shape k) selects); is_y = fine_any Q R (map (selected_half s IsY) (selectors_of s.shape k)) (selects_fine IsY (selectors_of s.shape k) selects) };
+          of_rev = record { not_n = fine_any Q R (map (selected_at s NotN) (selectors_of s.shape k)) (selects_fine NotN (selectors_of s.shape k) selects); is_y = fine_any Q R (map (selected_at s IsY) (selectors_of s.shape k)) (selects_fine IsY (selectors_of s.shape k) selects) };
           of_def = record { not_n = default_fine NotN (symbol_at s.shape k).defaults (defaults_part own); is_y = default_fine IsY (symbol_at s.shape k).defaults (defaults_part own) };
         })
 

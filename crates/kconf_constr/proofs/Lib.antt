@@ -2,7 +2,7 @@ mod Tables
 mod Lists
 mod Searching
 mod ValueLaws
-mod LimitLaws
+mod PropertyLaws
 mod SymbolLaws
 mod MemberTests
 mod ChoiceLaws

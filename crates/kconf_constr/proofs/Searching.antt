@@ -7,7 +7,7 @@ use Rattle.std.specs.List.Sorted.{IsNonDecreasingBy, IsPartitionPoint, IsSorted}
 use Rattle.std.specs.Ordering.{is_eq, is_lt, ordering_index, ordering_reverse}
 use Rattle.std.proofs.lemmas.List.Sorted.{searchable_from_sorted}
 use Rattle.std.specs.declared.cmp.Ordering.TheVariants.{Less, Equal, Greater}
-use Rattle.ut_logic.specs.Text.{text_eq, text_eq-exact, text_cmp, text_ties, text_total}
+use Rattle.ut_text.specs.Text.{text_eq, text_eq-exact, text_cmp, text_ties, text_total}
 use Rattle.kconf_tree.proofs.Small.{is_off}
 use Rattle.kconf_constr.specs.Scope.{IsRising, number_among}
 
@@ -28,7 +28,7 @@ less_is_not xs ys h = text_ties xs ys ∙ ap is_eq h
 more_is_not : (xs ys : List ℕ) → text_cmp xs ys ≡ Greater → text_eq xs ys ≡ false
 more_is_not xs ys h = text_ties xs ys ∙ ap is_eq h
 
--- of names that rise, the one before isn't the same as the one behind
+-- of names that rise, an earlier one differs from a later one
 apart : (names : List (List ℕ)) (i j : ℕ) (d name : List ℕ) → IsRising names → j < i → i < length names → text_eq (get_or names i d) name ≡ true → text_eq (get_or names j d) name ≡ false
 apart names i j d name up k h t = is_off _ (λ s. false≢true (sym (less_is_not (get_or names j d) (get_or names i d) (Less-from_sorted text_cmp names j i d up k h))
     ∙ ap (λ x. text_eq (get_or names j d) x) (text_eq-exact (get_or names i d) name t) ∙ s))
@@ -38,7 +38,7 @@ pub found_at : (names : List (List ℕ)) (name : List ℕ) (i : ℕ) (d : List �
 found_at names name i d up h e = let t = equal_is (get_or names i d) name e in
     sym (position_is (λ n. text_eq n name) names i d h t (λ j k. apart names i j d name up k h t))
 
--- between what is less and what is greater there is nothing equal
+-- nothing equal stands between what is less and what is greater
 pub not_found : (names : List (List ℕ)) (name : List ℕ) (i : ℕ) (d : List ℕ) → ((k : ℕ) → k < i → text_cmp (get_or names k d) name ≡ Less) → ((k : ℕ) → i ≤ k → k < length names → text_cmp (get_or names k d) name ≡ Greater) → None ≡ number_among names name
 not_found names name i d low high = sym (position_none (λ n. text_eq n name) names d (λ j h. elim (cases_lt j i) [
   | inl k ↦ less_is_not (get_or names j d) name (low j k)

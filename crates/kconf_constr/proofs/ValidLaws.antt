@@ -11,7 +11,7 @@ use Rattle.kconf_tree.specs.declared.shape.Counts.{Counts}
 use Rattle.kconf_tree.specs.declared.shape.Counts.TheVariants as counts
 use Rattle.kconf_entries.specs.declared.entries.Kind.TheVariants as kind
 use Rattle.kconf_tree.specs.Shape.{Shape, symbol_at, choice_at, counts_as, counts_alone, counts_in, counts_with, is_member, is_the}
-use Rattle.kconf_tree.specs.Made.{IsWellMade, is_among}
+use Rattle.kconf_tree.specs.WellMade.{IsWellMade, is_among}
 use Rattle.kconf_tree.specs.Value.{Configuration}
 use Rattle.kconf_tree.specs.Valid.{is_right_choice, KeepsRules, IsValid}
 use Rattle.kconf_tree.specs.Right.{IsRight, is_right}
@@ -19,11 +19,11 @@ use Rattle.kconf_tree.proofs.Small.{and_left, and_right, both_true, or_right, nu
 use Rattle.kconf_tree.proofs.RightLaws.{right_by_test, test_by_right, setting_from_right}
 use Rattle.kconf_constr.specs.Scope.{Scope, whole}
 use Rattle.kconf_constr.specs.Stands.{configuration_of, value_as, has_one_value}
-use Rattle.kconf_constr.specs.SymbolFormulas.{free_symbol_holds}
+use Rattle.kconf_constr.specs.SymbolFormulas.{non_member_holds}
 use Rattle.kconf_constr.specs.FactsOf.{facts_of, symbol_fact, choice_fact}
 use Rattle.kconf_constr.proofs.EachFact.{each_fact, of_symbol, of_choice}
 use Rattle.kconf_constr.specs.Meaning.{SymbolIsRight, SaysRight, HasBoolChoices, HaveOneValue}
-use Rattle.kconf_constr.proofs.LimitLaws.{visibility_stands, reverse_stands, default_stands}
+use Rattle.kconf_constr.proofs.PropertyLaws.{visibility_stands, reverse_stands, default_stands}
 use Rattle.kconf_constr.proofs.SymbolLaws.{symbol_law}
 use Rattle.kconf_constr.proofs.ChoiceLaws.{choice_law}
 
@@ -73,7 +73,7 @@ module _ (s : Scope) where
     test_is : (k : ℕ) → IsRight s.shape c k → is_right s.shape c k ≡ true
     test_is k r = test_by_right s.shape c k (visibility_stands s v k).small (reverse_stands s v k).small (default_stands s v k).small r
 
-    held_as : (k : ℕ) (o : Option ℕ) → (all_true (truths v (cond (is_some o) [] (free_symbol_holds s k))) ≡ true) ↔ SymbolIsRight s v k o
+    held_as : (k : ℕ) (o : Option ℕ) → (all_true (truths v (cond (is_some o) [] (non_member_holds s k))) ≡ true) ↔ SymbolIsRight s v k o
     held_as k (Some i) = (λ h. tt, λ r. refl)
     held_as k None = (
       λ h. let both = sym (symbol_law s v k) ∙ h in

@@ -24,15 +24,16 @@ use Rattle.kconf_tree.specs.declared.shape.Counts.TheVariants as counts
 use Rattle.kconf_tree.specs.Shape.{number_of, outer_at, counts_as}
 use Rattle.kconf_tree.specs.declared.place.Place.{Place}
 use Rattle.kconf_tree.specs.declared.place.Place.TheVariants.{Condition, Value}
-use Rattle.kconf_tree.specs.Value.{Configuration, value_in, value_step, named, side_value, const_value, outer_value, compares_trits, comparison_text, least, greatest, has_modules, stands_for}
+use Rattle.kconf_entries.specs.Written.{comparison_text}
+use Rattle.kconf_tree.specs.Value.{Configuration, value_in, value_step, named, side_value, const_value, outer_value, compares_trits, least, greatest, has_modules, stands_for}
 use Rattle.kconf_tree.specs.Value as tree
-use Rattle.kconf_constr.specs.declared.half.Half.TheVariants.{NotN, IsY}
+use Rattle.kconf_constr.specs.declared.level.Level.TheVariants.{NotN, IsY}
 use Rattle.kconf_constr.specs.Scope.{Scope, number_among}
-use Rattle.kconf_constr.specs.Halves.{Halves, both, halves, halves_step, half_of, value_halves, const_halves, own_halves_as, named_halves, free_formula, outer_formula, modules_formula, side_halves, same, compared, each, some}
-use Rattle.kconf_constr.specs.Stands.{value_as, free_truth, configuration_of}
+use Rattle.kconf_constr.specs.Levels.{Levels, both, levels, levels_step, at_level, value_levels, const_levels, own_levels_as, named_levels, undeclared_formula, outer_formula, modules_formula, side_levels, same, compared, each, some}
+use Rattle.kconf_constr.specs.Stands.{value_as, undeclared_truth, configuration_of}
 
 -- the formulas h stand for the value n
-pub record Stands (v : Item → Bool) (h : Halves) (n : ℕ) : Type 0 where
+pub record Stands (v : Item → Bool) (h : Levels) (n : ℕ) : Type 0 where
   pub not_n : truth v h.not_n ≡ not (n == 0)
   pub is_y : truth v h.is_y ≡ (n == 2)
   pub small : n ≤ 2
@@ -48,27 +49,27 @@ stands_n v = two_valued v No false (truth-No v)
 stands_y : (v : Item → Bool) → Stands v (both Yes) 2
 stands_y v = two_valued v Yes true (truth-Yes v)
 
-stands_value : (v : Item → Bool) (t : Trit) → Stands v (value_halves t) (rank t)
+stands_value : (v : Item → Bool) (t : Trit) → Stands v (value_levels t) (rank t)
 stands_value v N = stands_n v
 stands_value v M = record { not_n = truth-Yes v; is_y = truth-No v; small = omega arith }
 stands_value v Y = stands_y v
 
-pub stands_own : (v : Item → Bool) (kind : Counts) (k : ℕ) → Stands v (own_halves_as kind k) (stands_for kind (value_as kind v k))
+pub stands_own : (v : Item → Bool) (kind : Counts) (k : ℕ) → Stands v (own_levels_as kind k) (stands_for kind (value_as kind v k))
 stands_own v counts.Bool k = two_valued v (Is (SymY k)) (v (SymY k)) (truth-Is v (SymY k))
 stands_own v counts.Tristate k = by (v (SymY k)) (v (SymM k)) (truth-any_of v (Is (SymY k) ∷ Is (SymM k) ∷ []) ∙ ap any_true (truth_pair (SymY k) (SymM k))) (truth-Is v (SymY k))
   where
     truth_pair : (i j : Item) → truths v (Is i ∷ Is j ∷ []) ≡ v i ∷ v j ∷ []
     truth_pair i j = rw (truth-Is v i, truth-Is v j) refl
 
-    by : (a b : Bool) → truth v (own_halves_as counts.Tristate k).not_n ≡ any_true (a ∷ b ∷ []) → truth v (Is (SymY k)) ≡ a → Stands v (own_halves_as counts.Tristate k) (cond a 2 (cond b 1 0))
+    by : (a b : Bool) → truth v (own_levels_as counts.Tristate k).not_n ≡ any_true (a ∷ b ∷ []) → truth v (Is (SymY k)) ≡ a → Stands v (own_levels_as counts.Tristate k) (cond a 2 (cond b 1 0))
     by true b h g = record { not_n = h; is_y = g; small = omega arith }
     by false true h g = record { not_n = h; is_y = g; small = omega arith }
     by false false h g = record { not_n = h; is_y = g; small = omega arith }
 stands_own v counts.Neither k = stands_n v
 
-stands_free : (v : Item → Bool) (o : Option ℕ) → Stands v (both (free_formula o)) (cond (free_truth v o) 2 0)
-stands_free v None = stands_n v
-stands_free v (Some k) = two_valued v (Is (Undeclared k)) (v (Undeclared k)) (truth-Is v (Undeclared k))
+stands_undeclared : (v : Item → Bool) (o : Option ℕ) → Stands v (both (undeclared_formula o)) (cond (undeclared_truth v o) 2 0)
+stands_undeclared v None = stands_n v
+stands_undeclared v (Some k) = two_valued v (Is (Undeclared k)) (v (Undeclared k)) (truth-Is v (Undeclared k))
 
 neg_not_n : (n : ℕ) → n ≤ 2 → not (n == 2) ≡ not (2 - n == 0)
 neg_not_n n h = grind (arith, nat_tests)
@@ -88,7 +89,7 @@ max_not_n m n = grind (arith, nat_tests)
 max_is_y : (m n : ℕ) → m ≤ 2 → n ≤ 2 → ((m == 2) || (n == 2)) ≡ (max m n == 2)
 max_is_y m n h g = grind (arith, nat_tests)
 
-stands_neg : (v : Item → Bool) (h : Halves) (n : ℕ) → Stands v h n → Stands v (record { not_n = not_of h.is_y; is_y = not_of h.not_n }) (2 - n)
+stands_neg : (v : Item → Bool) (h : Levels) (n : ℕ) → Stands v h n → Stands v (record { not_n = not_of h.is_y; is_y = not_of h.not_n }) (2 - n)
 stands_neg v h n s = record {
   not_n = truth-not_of v h.is_y ∙ (ap not s.is_y ∙ neg_not_n n s.small);
   is_y = truth-not_of v h.not_n ∙ (ap not s.not_n ∙ neg_is_y n s.small);
@@ -97,7 +98,7 @@ stands_neg v h n s = record {
 
 -- ---- lists
 
-module _ (v : Item → Bool) {E : Type 0} (h : E → Halves) (n : E → ℕ) where
+module _ (v : Item → Bool) {E : Type 0} (h : E → Levels) (n : E → ℕ) where
   abbrev Each : Type 0
   Each = (e : E) × Stands v (h e) (n e)
 
@@ -112,19 +113,19 @@ module _ (v : Item → Bool) {E : Type 0} (h : E → Halves) (n : E → ℕ) whe
   greatest_small [] = omega arith
   greatest_small (e ∷ es) = omega (arith, e.1.small, greatest_small es)
 
-  all_not_n : (es : List Each) → all_true (truths v (map (half_of NotN) (map h (of es)))) ≡ not (least (map n (of es)) == 0)
+  all_not_n : (es : List Each) → all_true (truths v (map (at_level NotN) (map h (of es)))) ≡ not (least (map n (of es)) == 0)
   all_not_n [] = refl
   all_not_n (e ∷ es) = rw (e.1.not_n, all_not_n es) (min_not_n (n e.0) (least (map n (of es))))
 
-  all_is_y : (es : List Each) → all_true (truths v (map (half_of IsY) (map h (of es)))) ≡ (least (map n (of es)) == 2)
+  all_is_y : (es : List Each) → all_true (truths v (map (at_level IsY) (map h (of es)))) ≡ (least (map n (of es)) == 2)
   all_is_y [] = refl
   all_is_y (e ∷ es) = rw (e.1.is_y, all_is_y es) (min_is_y (n e.0) (least (map n (of es))) e.1.small (least_small es))
 
-  any_not_n : (es : List Each) → any_true (truths v (map (half_of NotN) (map h (of es)))) ≡ not (greatest (map n (of es)) == 0)
+  any_not_n : (es : List Each) → any_true (truths v (map (at_level NotN) (map h (of es)))) ≡ not (greatest (map n (of es)) == 0)
   any_not_n [] = refl
   any_not_n (e ∷ es) = rw (e.1.not_n, any_not_n es) (max_not_n (n e.0) (greatest (map n (of es))))
 
-  any_is_y : (es : List Each) → any_true (truths v (map (half_of IsY) (map h (of es)))) ≡ (greatest (map n (of es)) == 2)
+  any_is_y : (es : List Each) → any_true (truths v (map (at_level IsY) (map h (of es)))) ≡ (greatest (map n (of es)) == 2)
   any_is_y [] = refl
   any_is_y (e ∷ es) = rw (e.1.is_y, any_is_y es) (max_is_y (n e.0) (greatest (map n (of es))) e.1.small (greatest_small es))
 
@@ -147,7 +148,7 @@ module _ (v : Item → Bool) {E : Type 0} (h : E → Halves) (n : E → ℕ) whe
 same_bits : (m n : ℕ) → m ≤ 2 → n ≤ 2 → any_true (all_true ((m == 2) ∷ (n == 2) ∷ []) ∷ all_true (not (not (m == 0)) ∷ not (not (n == 0)) ∷ []) ∷ all_true (not (m == 0) ∷ not (m == 2) ∷ not (n == 0) ∷ not (n == 2) ∷ []) ∷ []) ≡ (m == n)
 same_bits m n h g = grind (arith, nat_tests)
 
-same_truth : (v : Item → Bool) (a b : Halves) (m n : ℕ) → Stands v a m → Stands v b n → truth v (same a b) ≡ (m == n)
+same_truth : (v : Item → Bool) (a b : Levels) (m n : ℕ) → Stands v a m → Stands v b n → truth v (same a b) ≡ (m == n)
 same_truth v a b m n s t = truth-any_of v (all_of (a.is_y ∷ b.is_y ∷ []) ∷ all_of (not_of a.not_n ∷ not_of b.not_n ∷ []) ∷ all_of (a.not_n ∷ not_of a.is_y ∷ b.not_n ∷ not_of b.is_y ∷ []) ∷ []) ∙ (rw (
   truth-all_of v (a.is_y ∷ b.is_y ∷ []),
   truth-all_of v (not_of a.not_n ∷ not_of b.not_n ∷ []),
@@ -162,14 +163,14 @@ same_truth v a b m n s t = truth-any_of v (all_of (a.is_y ∷ b.is_y ∷ []) ∷
   t.is_y,
 ) (same_bits m n s.small t.small))
 
-differs : (v : Item → Bool) (a b : Halves) (m n : ℕ) → Stands v a m → Stands v b n → Stands v (both (not_of (same a b))) (cond (m == n) 0 2)
+differs : (v : Item → Bool) (a b : Levels) (m n : ℕ) → Stands v a m → Stands v b n → Stands v (both (not_of (same a b))) (cond (m == n) 0 2)
 differs v a b m n s t = by (m == n) (same_truth v a b m n s t)
   where
     by : (q : Bool) → truth v (same a b) ≡ q → Stands v (both (not_of (same a b))) (cond q 0 2)
     by true h = two_valued v (not_of (same a b)) false (truth-not_of v (same a b) ∙ ap not h)
     by false h = two_valued v (not_of (same a b)) true (truth-not_of v (same a b) ∙ ap not h)
 
-stands_compared : (v : Item → Bool) (g : Sign) (a b : Halves) (m n : ℕ) → Stands v a m → Stands v b n → Stands v (both (compared g (same a b))) (tree.compared g m n)
+stands_compared : (v : Item → Bool) (g : Sign) (a b : Levels) (m n : ℕ) → Stands v a m → Stands v b n → Stands v (both (compared g (same a b))) (tree.compared g m n)
 stands_compared v sign.Same a b m n s t = two_valued v (same a b) (m == n) (same_truth v a b m n s t)
 stands_compared v sign.Differ a b m n s t = differs v a b m n s t
 stands_compared v sign.Less a b m n s t = differs v a b m n s t
@@ -195,8 +196,8 @@ module _ (s : Scope) (v : Item → Bool) where
       by None e = rw e (stands_n v)
       by (Some k) e = rw e (two_valued v (Is (Outer k)) (v (Outer k)) (truth-Is v (Outer k)))
 
-  name_case : (name : List ℕ) (o : Option ℕ) → Stands v (named_halves s name o) (named s.shape c name o)
-  name_case name None = stands_free v (number_among s.free name)
+  name_case : (name : List ℕ) (o : Option ℕ) → Stands v (named_levels s name o) (named s.shape c name o)
+  name_case name None = stands_undeclared v (number_among s.undeclared name)
   name_case name (Some k) = stands_own v (counts_as s.shape k) k
 
   -- the modules symbol counts as bool
@@ -230,7 +231,7 @@ module _ (s : Scope) (v : Item → Bool) where
   bare_case true h = record { not_n = h; is_y = truth-No v; small = omega arith }
   bare_case false h = record { not_n = h; is_y = truth-No v; small = omega arith }
 
-  const_case : (p : Place) (x : Trit) → Stands v (const_halves s p x) (const_value s.shape c p x)
+  const_case : (p : Place) (x : Trit) → Stands v (const_levels s p x) (const_value s.shape c p x)
   const_case Value N = stands_n v
   const_case Value M = stands_value v M
   const_case Value Y = stands_y v
@@ -238,42 +239,42 @@ module _ (s : Scope) (v : Item → Bool) where
   const_case Condition M = bare_case (has_modules s.shape c) modules_truth
   const_case Condition Y = stands_y v
 
-  side_case : (d : Side) → Stands v (side_halves s d) (side_value s.shape c d)
+  side_case : (d : Side) → Stands v (side_levels s d) (side_value s.shape c d)
   side_case (side.Const x) = stands_value v x
   side_case (side.Name name) = name_case name (number_of s.shape name)
   side_case (side.Literal text) = stands_n v
   side_case (side.Quoted text) = stands_n v
 
-  compare_case : (l r : Side) (g : Sign) (b : Bool) → Stands v (both (cond b (compared g (same (side_halves s l) (side_halves s r))) (outer_formula (outer_at s.shape (comparison_text l g r))))) (cond b (tree.compared g (side_value s.shape c l) (side_value s.shape c r)) (outer_value s.shape c (comparison_text l g r)))
-  compare_case l r g true = stands_compared v g (side_halves s l) (side_halves s r) (side_value s.shape c l) (side_value s.shape c r) (side_case l) (side_case r)
+  compare_case : (l r : Side) (g : Sign) (b : Bool) → Stands v (both (cond b (compared g (same (side_levels s l) (side_levels s r))) (outer_formula (outer_at s.shape (comparison_text l g r))))) (cond b (tree.compared g (side_value s.shape c l) (side_value s.shape c r)) (outer_value s.shape c (comparison_text l g r)))
+  compare_case l r g true = stands_compared v g (side_levels s l) (side_levels s r) (side_value s.shape c l) (side_value s.shape c r) (side_case l) (side_case r)
   compare_case l r g false = outer_case (comparison_text l g r)
 
   module _ (p : Place) where
     abbrev Right : Expr → Type 0
-    Right e = Stands v (halves s p e) (value_in s.shape c p e)
+    Right e = Stands v (levels s p e) (value_in s.shape c p e)
 
     abbrev StepRight : Expr-F Expr → Type 0
-    StepRight z = Stands v (halves_step s p (map-Expr Expr Halves (halves s p) z)) (value_step s.shape c p (map-Expr Expr ℕ (value_in s.shape c p) z))
+    StepRight z = Stands v (levels_step s p (map-Expr Expr Levels (levels s p) z)) (value_step s.shape c p (map-Expr Expr ℕ (value_in s.shape c p) z))
 
     step : (y : Expr-F ((e : Expr) × Right e)) → StepRight (map-Expr ((e : Expr) × Right e) Expr (λ p. p.0) y)
     step (Expr-F.Const x) = const_case p x
     step (Expr-F.Name name) = name_case name (number_of s.shape name)
     step (Expr-F.Outer text) = outer_case text
     step (Expr-F.Compare left g right) = compare_case left right g (compares_trits s.shape left g right)
-    step (Expr-F.Neg e) = stands_neg v (halves s p e.0) (value_in s.shape c p e.0) e.1
-    step (Expr-F.And es) = stands_all v (halves s p) (value_in s.shape c p) es
-    step (Expr-F.Or es) = stands_any v (halves s p) (value_in s.shape c p) es
+    step (Expr-F.Neg e) = stands_neg v (levels s p e.0) (value_in s.shape c p e.0) e.1
+    step (Expr-F.And es) = stands_all v (levels s p) (value_in s.shape c p) es
+    step (Expr-F.Or es) = stands_any v (levels s p) (value_in s.shape c p) es
 
     rolled : (x : Expr-F Expr) → StepRight x → Right (roll-Expr x)
-    rolled x h = rw (fold-roll-Expr Halves (halves_step s p) x, fold-roll-Expr ℕ (value_step s.shape c p) x) h
+    rolled x h = rw (fold-roll-Expr Levels (levels_step s p) x, fold-roll-Expr ℕ (value_step s.shape c p) x) h
 
     pub expr_right : (e : Expr) → Right e
     expr_right = ind-Expr Right (λ x y is. rolled x (subst StepRight is (step y)))
 
 -- ---- of formulas that are those of a condition
 
-pub not_n_of : (s t : Scope) (e : Expr) (f : Formula) → f ≡ (halves s Condition e).not_n → s ≡ t → (v : Item → Bool) → truth v f ≡ not (value_in t.shape (configuration_of t v) Condition e == 0)
-not_n_of s t e f h g v = ap (truth v) (h ∙ ap (λ (r : Scope). (halves r Condition e).not_n) g) ∙ (expr_right t v Condition e).not_n
+pub not_n_of : (s t : Scope) (e : Expr) (f : Formula) → f ≡ (levels s Condition e).not_n → s ≡ t → (v : Item → Bool) → truth v f ≡ not (value_in t.shape (configuration_of t v) Condition e == 0)
+not_n_of s t e f h g v = ap (truth v) (h ∙ ap (λ (r : Scope). (levels r Condition e).not_n) g) ∙ (expr_right t v Condition e).not_n
 
-pub is_y_of : (s t : Scope) (e : Expr) (f : Formula) → f ≡ (halves s Condition e).is_y → s ≡ t → (v : Item → Bool) → truth v f ≡ (value_in t.shape (configuration_of t v) Condition e == 2)
-is_y_of s t e f h g v = ap (truth v) (h ∙ ap (λ (r : Scope). (halves r Condition e).is_y) g) ∙ (expr_right t v Condition e).is_y
+pub is_y_of : (s t : Scope) (e : Expr) (f : Formula) → f ≡ (levels s Condition e).is_y → s ≡ t → (v : Item → Bool) → truth v f ≡ (value_in t.shape (configuration_of t v) Condition e == 2)
+is_y_of s t e f h g v = ap (truth v) (h ∙ ap (λ (r : Scope). (levels r Condition e).is_y) g) ∙ (expr_right t v Condition e).is_y

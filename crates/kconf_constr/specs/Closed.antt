@@ -22,6 +22,6 @@ IsReached t fact (item.SymM k) = Reaches fact (Sym k) ⊎ Contains fact.names (n
 IsReached t fact (item.ModeY i) = fact.node ≡ Choice i
 IsReached t fact i = is_in fact.items i ≡ true
 
--- so is each item that the fact's formulas mention
+-- each item that the fact's formulas mention is reached
 abbrev pub IsClosed : Shape → Fact → Type 0
 IsClosed t fact = (i : Item) → is_in (together (map mentioned fact.holds)) i ≡ true → IsReached t fact i

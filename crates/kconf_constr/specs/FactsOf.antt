@@ -1,5 +1,5 @@
 -- The facts of a tree: one for each symbol, in order, and then one for each choice. This project's rule.
-use Rattle.std.specs.Prelude.{ℕ, Bool, true, false, List, [], ◌∷◌, ◌++◌, Option, None, Some, length, map, filter}
+use Rattle.std.specs.Prelude.{ℕ, Bool, not, List, [], ◌∷◌, ◌++◌, Option, None, Some, is_some, length, map, filter}
 use Rattle.std.specs.List.{range_with_len}
 use Rattle.ut_logic.specs.declared.item.Item.{Item}
 use Rattle.ut_logic.specs.declared.item.Item.TheVariants as item
@@ -7,6 +7,7 @@ use Rattle.ut_logic.specs.declared.node.Node.{Node}
 use Rattle.ut_logic.specs.declared.node.Node.TheVariants.{Sym, Choice}
 use Rattle.ut_logic.specs.declared.formula.Formula.{Formula}
 use Rattle.ut_logic.specs.declared.facts.Fact.{Fact}
+use Rattle.ut_logic.specs.Owners.{owner}
 use Rattle.ut_logic.specs.Truth.{mentioned, together}
 use Rattle.kconf_tree.specs.declared.shape.Counts.{Counts}
 use Rattle.kconf_tree.specs.declared.shape.Counts.TheVariants as counts
@@ -24,11 +25,9 @@ own_items counts.Bool k = item.SymY k ∷ []
 own_items counts.Tristate k = item.SymY k ∷ item.SymM k ∷ []
 own_items counts.Neither k = []
 
--- an item that no node has as its own: that of an undeclared name or of an outer condition
+-- an item that no node has as its own, such as that of an undeclared name or of an outer condition
 abbrev pub is_loose : Item → Bool
-is_loose (item.Undeclared k) = true
-is_loose (item.Outer k) = true
-is_loose i = false
+is_loose i = not (is_some (owner i))
 
 -- those that formulas mention
 abbrev pub loose_items : List Formula → List Item

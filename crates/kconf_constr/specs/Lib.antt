@@ -1,7 +1,7 @@
 -- what public contracts rest on
 pub mod Scope
-pub mod Halves
-pub mod Limits
+pub mod Levels
+pub mod PropertyFormulas
 pub mod SymbolFormulas
 pub mod ChoiceFormulas
 pub mod FactsOf

@@ -16,9 +16,9 @@ value_as counts.Tristate v k = if v (SymY k) then 2 else (if v (SymM k) then 1 e
 value_as counts.Neither v k = 0
 
 -- whether the undeclared name with this number is y; one without a number is n
-abbrev pub free_truth : (Item → Bool) → Option ℕ → Bool
-free_truth v None = false
-free_truth v (Some k) = v (Undeclared k)
+abbrev pub undeclared_truth : (Item → Bool) → Option ℕ → Bool
+undeclared_truth v None = false
+undeclared_truth v (Some k) = v (Undeclared k)
 
 -- the whole configuration
 abbrev pub configuration_of : Scope → (Item → Bool) → Configuration
@@ -26,7 +26,7 @@ configuration_of s v = record {
   value = λ k. value_as (counts_as s.shape k) v k;
   mode = λ i. if v (ModeY i) then 2 else 0;
   outer = λ k. v (Outer k);
-  undeclared = λ name. free_truth v (number_among s.free name);
+  undeclared = λ name. undeclared_truth v (number_among s.undeclared name);
 }
 
 -- a symbol that counts as tristate has two items, of which at most one is true

@@ -5,7 +5,7 @@ ghost use Rattle.ut_logic.specs.Fold as fold;
 ghost use Rattle.kconf_tree.specs.Shape.{choice_at};
 ghost use Rattle.kconf_constr.specs.ChoiceFormulas as spec;
 
-use crate::half::Half;
+use crate::level::Level;
 use crate::scope::Scope;
 use std::alloc::{AllocError, Global};
 use ut_logic::{Formula, Item, any_of, not_of};
@@ -47,16 +47,16 @@ fn not_both(alloc: Global, member: u32, other: u32) -> Result<Formula, AllocErro
     Ok(any_of(vec![in alloc; first, second]?))
 }
 
-/// Adds that the member and each of those behind it aren't both y.
+/// Adds that the member and each later member aren't both y.
 fn add_pairs_with(
     alloc: Global,
     member: u32,
-    behind: &[u32],
+    later: &[u32],
     holds: &mut Vec<Formula>,
 ) -> Result<(), AllocError>
-    ensures { OnOk result (holds.new.items ≡ holds.old.items ++ map (spec.not_both member) behind.now) }
+    ensures { OnOk result (holds.new.items ≡ holds.old.items ++ map (spec.not_both member) later.now) }
 {
-    for other in behind {
+    for other in later {
         holds.push(not_both(alloc, member, *other)?)?;
     }
     Ok(())
@@ -88,7 +88,7 @@ impl<'a> Scope<'a> {
         requires { member < length self.now.shape.symbols }
         ensures { IfOk result (λ f. f ≡ spec.seen self.now member) }
     {
-        self.visibility(alloc, member, Half::NotN)
+        self.visibility(alloc, member, Level::NotN)
     }
 
     /// That a choice is visible.
@@ -96,10 +96,11 @@ impl<'a> Scope<'a> {
         requires { choice < length self.now.shape.choices }
         ensures { IfOk result (λ f. f ≡ spec.choice_seen self.now choice) }
     {
-        self.prompts_half(alloc, self.tree().choice_prompts(choice), Half::NotN)
+        let prompts = &self.tree().choice_at(choice).prompts;
+        self.prompts_formula(alloc, prompts.as_slice(), Level::NotN)
     }
 
-    /// Mode y only where the choice is visible.
+    /// That the mode is y only where the choice is visible.
     fn mode_only(&self, alloc: Global, choice: u32) -> Result<Formula, AllocError>
         requires { choice < length self.now.shape.choices }
         ensures { IfOk result (λ f. f ≡ spec.mode_only (spec.choice_seen self.now choice) (spec.in_mode_y choice)) }
@@ -109,7 +110,7 @@ impl<'a> Scope<'a> {
         Ok(any_of(vec![in alloc; off, seen]?))
     }
 
-    /// Mode y where the choice is visible.
+    /// That the mode is y where the choice is visible.
     fn mode_there(&self, alloc: Global, choice: u32) -> Result<Formula, AllocError>
         requires { choice < length self.now.shape.choices }
         ensures { IfOk result (λ f. f ≡ spec.mode_there (spec.choice_seen self.now choice) (spec.in_mode_y choice)) }
@@ -118,20 +119,20 @@ impl<'a> Scope<'a> {
         Ok(any_of(vec![in alloc; unseen, mode(choice)]?))
     }
 
-    /// When the mode of a choice is y.
+    /// Which mode a choice has.
     fn mode_holds(&self, alloc: Global, choice: u32) -> Result<Vec<Formula>, AllocError>
         requires { choice < length self.now.shape.choices }
         ensures { IfOk result (λ v. v.items ≡ spec.mode_holds (choice_at self.now.shape choice).optional (spec.choice_seen self.now choice) (spec.in_mode_y choice)) }
     {
         let only = self.mode_only(alloc, choice)?;
-        if self.tree().optional(choice) {
+        if self.tree().choice_at(choice).optional {
             return Ok(vec![in alloc; only]?);
         }
         let there = self.mode_there(alloc, choice)?;
         Ok(vec![in alloc; only, there]?)
     }
 
-    /// Adds that a member is y in mode y alone, and where it is visible.
+    /// Adds that a member is y only in mode y, and only where it is visible.
     fn add_member(
         &self,
         alloc: Global,
@@ -150,7 +151,7 @@ impl<'a> Scope<'a> {
         Ok(())
     }
 
-    /// Adds this of each member.
+    /// Adds this for each member.
     fn add_members(
         &self,
         alloc: Global,
@@ -167,7 +168,7 @@ impl<'a> Scope<'a> {
         Ok(())
     }
 
-    /// In mode y, where this member is visible, some member is y.
+    /// That in mode y, where this member is visible, some member is y.
     fn some_y(
         &self,
         alloc: Global,
@@ -185,7 +186,7 @@ impl<'a> Scope<'a> {
         Ok(any_of(parts))
     }
 
-    /// Adds this of each member.
+    /// Adds this for each member.
     fn add_some_y(
         &self,
         alloc: Global,
@@ -202,13 +203,13 @@ impl<'a> Scope<'a> {
         Ok(())
     }
 
-    /// What a choice holds. The only error is want of memory.
+    /// The formulas that hold for a choice. The only error is out of memory.
     pub fn choice_holds(&self, alloc: Global, choice: u32) -> Result<Vec<Formula>, AllocError>
         requires { choice < length self.now.shape.choices }
         ensures { IfOk result (λ v. v.items ≡ spec.choice_holds self.now choice) }
     {
         let mut holds = self.mode_holds(alloc, choice)?;
-        let members = self.tree().members(choice);
+        let members = self.tree().choice_at(choice).members.as_slice();
         self.add_members(alloc, choice, members, &mut holds)?;
         add_pairs(alloc, members, &mut holds)?;
         self.add_some_y(alloc, choice, members, &mut holds)?;

@@ -1,7 +1,7 @@
 ghost use Rattle.std.specs.Prelude.{◌≡◌, ◌<◌, ◌++◌, All, IfOk, OnOk, length, map};
 ghost use Rattle.std.specs.List.{range_with_len};
 ghost use Rattle.ut_logic.specs.declared.node.Node.TheVariants as node;
-ghost use Rattle.kconf_constr.specs.Scope.{IsRising, whole, with_free};
+ghost use Rattle.kconf_constr.specs.Scope.{IsRising, whole, with_undeclared};
 ghost use Rattle.kconf_constr.specs.FactsOf as spec;
 ghost use Rattle.kconf_constr.specs.Closed.{IsClosed};
 ghost use Rattle.kconf_constr.specs.Meaning.{HasBoolChoices, SayRules, SayValid, SaysRight};
@@ -23,7 +23,7 @@ fn add_members(members: &[u32], names: &mut Vec<Node>) -> Result<(), AllocError>
 }
 
 impl<'a> Scope<'a> {
-    /// What the fact of a symbol names.
+    /// The nodes that the fact of a symbol names.
     fn symbol_names(&self, alloc: Global, sym: u32) -> Result<Vec<Node>, AllocError>
         requires { sym < length self.now.shape.symbols }
         ensures { IfOk result (λ v. v.items ≡ spec.names_by self.now.shape sym (spec.choice_of self.now.shape sym)) }
@@ -52,13 +52,13 @@ impl<'a> Scope<'a> {
         })
     }
 
-    /// What the fact of a choice names.
+    /// The nodes that the fact of a choice names.
     fn choice_names(&self, alloc: Global, choice: u32) -> Result<Vec<Node>, AllocError>
         requires { choice < length self.now.shape.choices }
         ensures { IfOk result (λ v. v.items ≡ spec.choice_names self.now.shape choice) }
     {
         let mut names = Vec::new(alloc);
-        add_members(self.tree().members(choice), &mut names)?;
+        add_members(self.tree().choice_at(choice).members.as_slice(), &mut names)?;
         let mut more = self.tree().choice_references(alloc, choice)?;
         names.append(&mut more)?;
         Ok(names)
@@ -118,7 +118,7 @@ impl<'a> Scope<'a> {
 }
 
 /// One fact for each symbol, in order, and then one for each choice, where every undeclared name is n. The only
-/// error is want of memory.
+/// error is out of memory.
 ///
 /// Rule: Linux kconfig-language, "Menu attributes", "Menu dependencies" and "Menu structure"; the formulas are
 /// this project's rule.
@@ -133,18 +133,18 @@ pub fn constraints(alloc: Global, tree: &Tree) -> Result<Facts, AllocError>
 }
 
 /// The same facts where each of these undeclared names, which rise by their bytes, may be y: its number in the
-/// list is that of its item. The only error is want of memory.
+/// list is that of its item. The only error is out of memory.
 pub fn free_constraints(
     alloc: Global,
     tree: &Tree,
     undeclared: &[Text],
 ) -> Result<Facts, AllocError>
     requires { IsRising undeclared.now }
-    ensures facts { IfOk result (λ f. f.list ≡ spec.facts_of (with_free tree.now.shape undeclared.now)) }
+    ensures facts { IfOk result (λ f. f.list ≡ spec.facts_of (with_undeclared tree.now.shape undeclared.now)) }
     ensures closed { IfOk result (λ f. All (IsClosed tree.now.shape) f.list) }
-    ensures means { HasBoolChoices tree.now.shape → IfOk result (λ f. All (SaysRight (with_free tree.now.shape undeclared.now)) f.list) }
-    ensures valid { HasBoolChoices tree.now.shape → IfOk result (λ f. SayRules (with_free tree.now.shape undeclared.now) f.list) }
+    ensures means { HasBoolChoices tree.now.shape → IfOk result (λ f. All (SaysRight (with_undeclared tree.now.shape undeclared.now)) f.list) }
+    ensures valid { HasBoolChoices tree.now.shape → IfOk result (λ f. SayRules (with_undeclared tree.now.shape undeclared.now) f.list) }
 {
     let _order = tree.order();
-    Scope::with_free(tree, undeclared).facts(alloc)
+    Scope::with_undeclared(tree, undeclared).facts(alloc)
 }

@@ -1,47 +1,17 @@
 //! The items of a node.
 
-ghost use Rattle.std.specs.Prelude.{◌≡◌, ◌++◌, filter, map, IfOk, OnOk};
-ghost use Rattle.ut_logic.specs.Truth.{mentioned, together};
+ghost use Rattle.std.specs.Prelude.{◌≡◌, ◌++◌, filter, IfOk};
 ghost use Rattle.kconf_constr.specs.FactsOf as spec;
 
 use kconf_tree::Counts;
 use std::alloc::{AllocError, Global};
-use ut_logic::{Formula, Item};
+use ut_logic::{Formula, Item, mention_each};
 
-/// Whether no node has the item as its own: that of an undeclared name or of an outer condition.
+/// Whether no node has the item as its own.
 fn is_loose(item: Item) -> bool
     ensures { result ≡ spec.is_loose item }
 {
-    matches!(item, Item::Undeclared(_) | Item::Outer(_))
-}
-
-/// Adds the items that the formula mentions.
-#[cycle(mention)]
-fn mention(f: &Formula, items: &mut Vec<Item>) -> Result<(), AllocError>
-    ensures { OnOk result (items.new.items ≡ items.old.items ++ mentioned f.now) }
-{
-    match f {
-        Formula::Yes => Ok(()),
-        Formula::No => Ok(()),
-        Formula::Is(item) => {
-            items.push(*item)?;
-            Ok(())
-        }
-        Formula::Neg(inner) => mention(inner.get(), items),
-        Formula::AllOf(list) => mention_each(list.as_slice(), items),
-        Formula::AnyOf(list) => mention_each(list.as_slice(), items),
-    }
-}
-
-/// Adds the items that each formula mentions.
-#[cycle(mention)]
-fn mention_each(list: &[Formula], items: &mut Vec<Item>) -> Result<(), AllocError>
-    ensures { OnOk result (items.new.items ≡ items.old.items ++ together (map mentioned list.now)) }
-{
-    for f in list {
-        mention(f, items)?;
-    }
-    Ok(())
+    item.owner().is_none()
 }
 
 /// Keeps the items that no node has as its own.
@@ -51,7 +21,7 @@ fn keep_loose(items: &mut Vec<Item>)
     items.retain(|item| is_loose(*item));
 }
 
-/// The items of the formulas that no node has as its own. The only error is want of memory.
+/// The items of the formulas that no node has as its own. The only error is out of memory.
 fn loose_items(alloc: Global, formulas: &[Formula]) -> Result<Vec<Item>, AllocError>
     ensures { IfOk result (λ items. items.items ≡ spec.loose_items formulas.now) }
 {

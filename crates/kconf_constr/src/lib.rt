@@ -11,11 +11,11 @@
 
 mod choice_formulas;
 mod conditions;
+mod expressions;
 mod facts;
-mod half;
-mod halves;
 mod items;
-mod limits;
+mod level;
+mod property_formulas;
 mod scope;
 mod symbol_formulas;
 

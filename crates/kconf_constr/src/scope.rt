@@ -5,11 +5,11 @@ use kconf_tree::Tree;
 use std::marker::Model;
 use ut_logic::Text;
 
-/// What an expression is read in: a tree, and the undeclared names that may be read as y, rising.
+/// Where an expression is read: a tree, and the undeclared names that may be read as y, rising by their bytes.
 #[derive(Drop)]
 pub struct Scope<'a> {
     tree: &'a Tree,
-    free: &'a [Text],
+    undeclared: &'a [Text],
 }
 
 impl<'a> Model for Scope<'a> {
@@ -21,25 +21,28 @@ impl<'a> Model for Scope<'a> {
 
     ghost coded = { Prim.hlevel (codes, e.the_row.coded) };
 
-    ghost view = { λ s. record { shape = s.tree.now.shape; free = s.free.now } };
+    ghost view = { λ s. record { shape = s.tree.now.shape; undeclared = s.undeclared.now } };
 
-    ghost invariant = { λ s. IsRising s.free.now };
+    ghost invariant = { λ s. IsRising s.undeclared.now };
 }
 
 impl<'a> Scope<'a> {
-    /// Where every undeclared name is n.
+    /// The scope in which every undeclared name is n.
     pub fn whole(tree: &'a Tree) -> Scope<'a>
         ensures { result ≡ spec.whole tree.now.shape }
     {
-        Scope { tree, free: &[] }
+        Scope {
+            tree,
+            undeclared: &[],
+        }
     }
 
-    /// Where these undeclared names may be y.
-    pub fn with_free(tree: &'a Tree, free: &'a [Text]) -> Scope<'a>
-        requires { spec.IsRising free.now }
-        ensures { result ≡ spec.with_free tree.now.shape free.now }
+    /// The scope in which these undeclared names may be y.
+    pub fn with_undeclared(tree: &'a Tree, undeclared: &'a [Text]) -> Scope<'a>
+        requires { spec.IsRising undeclared.now }
+        ensures { result ≡ spec.with_undeclared tree.now.shape undeclared.now }
     {
-        Scope { tree, free }
+        Scope { tree, undeclared }
     }
 
     /// The tree.
@@ -49,11 +52,11 @@ impl<'a> Scope<'a> {
         self.tree
     }
 
-    /// The number of an undeclared name.
-    pub fn free_number(&self, name: &Text) -> Option<u64>
-        ensures { result ≡ spec.number_among self.now.free name.now }
+    /// The number of an undeclared name that may be y.
+    pub fn undeclared_number(&self, name: &Text) -> Option<u64>
+        ensures { result ≡ spec.number_among self.now.undeclared name.now }
     {
-        match self.free.binary_search(name) {
+        match self.undeclared.binary_search(name) {
             Ok(place) => Some(place as u64),
             Err(_) => None,
         }

@@ -3,7 +3,7 @@ use Rattle.std.proofs.Common.{ℕ, suc, ◌+◌, ◌<◌, ◌≤◌, Bool, true,
 use Rattle.std.specs.List.{AllByRecursion}
 use Rattle.std.specs.Option.{option_or}
 use Rattle.std.proofs.lemmas.List.Elements.{All-from_recursion, recursion_from_All, All-filter, All-map}
-use Rattle.ut_logic.specs.Text.{text_eq}
+use Rattle.ut_text.specs.Text.{text_eq}
 use Rattle.kconf_entries.specs.declared.entries.Kind.{Kind}
 use Rattle.kconf_entries.specs.declared.entries.ConfigEntry.{ConfigEntry}
 use Rattle.kconf_entries.specs.declared.entries.ChoiceEntry.{ChoiceEntry}
@@ -13,7 +13,7 @@ use Rattle.kconf_tree.specs.Value.{is_text_or_number}
 use Rattle.kconf_tree.specs.Gathered.{entries_named, first_kind, first_choice, member_choice, symbol_of, symbols_of, is_member_of, places_from, choices_from}
 use Rattle.kconf_tree.specs.Types.{names_of}
 
--- the number of a choice, if there is one, is below n
+-- the number of a choice, if any, is below n
 abbrev pub IsBelow : ℕ → Option ℕ → Type 0
 IsBelow n o = IfSome o (λ i. i < n)
 

@@ -3,7 +3,7 @@ use Rattle.std.proofs.Common.{◌≡◌, ◌≢◌, ℕ, zero, suc, ◌+◌, ◌
 use Rattle.std.proofs.lemmas.Bool.{false≢true, eqb-true, eqb-false}
 use Rattle.std.proofs.lemmas.List.{length-set, drop_more, append-nil, append_assoc, ext_get_or, length-map}
 use Rattle.std.specs.List.{list_any, position_or_len}
-use Rattle.ut_logic.specs.Text.{text_eq, text_eq-exact}
+use Rattle.ut_text.specs.Text.{text_eq, text_eq-exact}
 use Rattle.kconf_entries.specs.declared.entries.Kind.{Kind}
 use Rattle.kconf_entries.specs.declared.entries.Kind.TheVariants as kind
 use Rattle.kconf_entries.specs.declared.entries.ConfigEntry.{ConfigEntry}

@@ -3,6 +3,7 @@ use Rattle.std.proofs.Common.{◌≡◌, ℕ, zero, suc, ◌+◌, ◌<◌, ◌�
 use Rattle.std.proofs.lemmas.Bool.{cases_lt}
 use Rattle.std.proofs.lemmas.List.{length-map, get_or_past}
 use Rattle.std.proofs.lemmas.List.Elements.{All-head, All-tail, All-map, All-weaker, All-get_or, All-nil, All-contains}
+use Rattle.std.proofs.lemmas.Simd.{map-map}
 use Rattle.std.proofs.lemmas.List.FromFn.{length-range_with_len, get_or-map-range_with_len}
 use Rattle.std.specs.Cmp.{IsEquivalence, eq_by_cmp_equiv}
 use Rattle.std.specs.List.{list_any, range_with_len}
@@ -13,16 +14,13 @@ use Rattle.kconf_tree.specs.Gathered.{distinct}
 use Rattle.kconf_tree.specs.References.{node_of, numbers_of, references_of}
 use Rattle.kconf_tree.specs.Orders.{nodes_of, place_of, graph_of}
 use Rattle.node_order.specs.Graph.{IsGraph, Refers, refers_of}
+use Rattle.kconf_tree.specs.Limits.{max_symbols}
 use Rattle.kconf_tree.specs.Links.{AreRowsBelow}
 use Rattle.kconf_tree.specs.Numbering.{each_at, lists_of, place_among, places_among, rows_among, symbol_places}
 use Rattle.kconf_tree.proofs.Places.{place_within, distinct_has}
 
 node_laws : IsEquivalence node_eq
 node_laws = eq_by_cmp_equiv node_total
-
-map_map : {A B C : Type 0} (f : B → C) (g : A → B) (xs : List A) → map (λ x. f (g x)) xs ≡ map f (map g xs)
-map_map f g [] = refl
-map_map f g (x ∷ xs) = ap (λ ys. f (g x) ∷ ys) (map_map f g xs)
 
 -- ---- how many
 
@@ -74,7 +72,7 @@ module _ (t : Shape) where
     where
       each : (ns : List Node) → map (places_among t (nodes_of t)) (map (numbers_of t) ns) ≡ map row_of ns
       each [] = refl
-      each (n ∷ ns) = let one = map_map (place_of t) (node_of t) (numbers_of t n) in let rest = each ns in λ i. one i ∷ rest i
+      each (n ∷ ns) = let one = sym (map-map (place_of t) (node_of t) (numbers_of t n)) in let rest = each ns in λ i. one i ∷ rest i
 
   -- places that are looked up are those that are searched for
   pub looked_up : (nodes : List Node) (rows : List (List ℕ)) → AreRowsBelow (length t.symbols) rows → map (each_at (symbol_places t nodes)) rows ≡ rows_among t nodes rows
@@ -94,7 +92,7 @@ module _ (t : Shape) where
       one : (row : List ℕ) → All (λ k. k < length t.symbols) row → All (λ p. p < length (nodes_of t)) (places_among t (nodes_of t) row)
       one row g = All-map (λ p. p < length (nodes_of t)) (λ k. place_among (nodes_of t) (node_of t k)) row (All-weaker (λ k. k < length t.symbols) (λ k. place_among (nodes_of t) (node_of t k) < length (nodes_of t)) place_below row g)
 
-  pub graph_whole : length t.symbols ≤ 65536 → AreRowsBelow (length t.symbols) (lists_of t (nodes_of t)) → IsGraph (graph_of t)
+  pub graph_whole : length t.symbols ≤ max_symbols → AreRowsBelow (length t.symbols) (lists_of t (nodes_of t)) → IsGraph (graph_of t)
   graph_whole few h = record { small = omega (arith, graph_length, length-nodes, few); within = λ a b r. subst (λ n. b < n) (sym graph_length) (by a b r (cases_lt a (length (graph_of t)))) }
     where
       below : AreRowsBelow (length (nodes_of t)) (graph_of t)

@@ -88,16 +88,16 @@ length-mapped f (x ∷ xs) = ap suc (length-mapped f xs)
 pub length-graph : (t : Shape) → length (graph_of t) ≡ length (nodes_of t)
 length-graph t = length-mapped (λ n. map (place_of t) (references_of t n)) (nodes_of t)
 
--- ---- the front of an order, and what comes behind
+-- ---- the front of an order, and the rest
 
 take_front : {A : Type 0} (xs ys : List A) → take (length xs) (xs ++ ys) ≡ xs
 take_front [] [] = refl
 take_front [] (y ∷ ys) = refl
 take_front (x ∷ xs) ys = ap (λ zs. x ∷ zs) (take_front xs ys)
 
-read_behind : {A : Type 0} (xs : List A) (y : A) (ys : List A) (d : A) → get_or (xs ++ y ∷ ys) (length xs) d ≡ y
-read_behind [] y ys d = refl
-read_behind (x ∷ xs) y ys d = read_behind xs y ys d
+read_after : {A : Type 0} (xs : List A) (y : A) (ys : List A) (d : A) → get_or (xs ++ y ∷ ys) (length xs) d ≡ y
+read_after [] y ys d = refl
+read_after (x ∷ xs) y ys d = read_after xs y ys d
 
 module _ (t : Shape) (apart : AreApart node_eq (nodes_of t)) (numbers : List ℕ) (o : IsGraphOrder (graph_of t) numbers) where
   in_range : (a : ℕ) → Contains numbers a → a < length (nodes_of t)
@@ -134,10 +134,10 @@ module _ (t : Shape) (apart : AreApart node_eq (nodes_of t)) (numbers : List ℕ
       front = ap (take (length pre)) e ∙ take_front pre (a ∷ ns)
 
       here : get_or numbers (length pre) 0 ≡ a
-      here = ap (λ (xs : List ℕ). get_or xs (length pre) 0) e ∙ read_behind pre a ns 0
+      here = ap (λ (xs : List ℕ). get_or xs (length pre) 0) e ∙ read_after pre a ns 0
 
       there_too : Contains numbers a
-      there_too = (length pre, k, ap (λ (xs : List ℕ). get_or xs (length pre) a) e ∙ read_behind pre a ns a)
+      there_too = (length pre, k, ap (λ (xs : List ℕ). get_or xs (length pre) a) e ∙ read_after pre a ns a)
 
       new : among node_eq there (node_at t a) ≡ false
       new = is_off (among node_eq there (node_at t a)) (λ g. let r = (h (node_at t a)).1 g in

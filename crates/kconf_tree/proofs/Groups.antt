@@ -6,7 +6,7 @@ use Rattle.std.specs.List.{list_any}
 use Rattle.std.specs.Map.{lookup}
 use Rattle.indexmap.specs.IndexMap.{insert_entry}
 use Rattle.indexmap.specs.IndexSet.{insert_key}
-use Rattle.ut_logic.specs.Text.{text_eq, text_equiv, text_eq-exact}
+use Rattle.ut_text.specs.Text.{text_eq, text_equiv, text_eq-exact}
 use Rattle.kconf_entries.specs.declared.entries.ConfigEntry.{ConfigEntry}
 use Rattle.kconf_tree.specs.Gathered.{entries_named, once}
 use Rattle.kconf_tree.specs.Types.{names_of}
@@ -55,9 +55,9 @@ module _ {A : Type 0} (F : List ConfigEntry → A) where
   insert_named es e [] a = ap (λ xs. (e.name, F xs) ∷ []) (sym (named_here es e e.name (text_equiv.refl e.name)))
   insert_named es e (n ∷ ns) a = by (text_eq e.name n) refl (insert_named es e ns a.1)
     where
-      behind : (c : Bool) → each_named (es ++ e ∷ []) (n ∷ cond c ns (ns ++ e.name ∷ [])) ≡ each_named (es ++ e ∷ []) (cond c (n ∷ ns) (n ∷ ns ++ e.name ∷ []))
-      behind true = refl
-      behind false = refl
+      later : (c : Bool) → each_named (es ++ e ∷ []) (n ∷ cond c ns (ns ++ e.name ∷ [])) ≡ each_named (es ++ e ∷ []) (cond c (n ∷ ns) (n ∷ ns ++ e.name ∷ []))
+      later true = refl
+      later false = refl
 
       by : (b : Bool) → text_eq e.name n ≡ b → insert_entry text_eq (each_named es ns) e.name (F (entries_named es e.name ++ e ∷ [])) ≡ each_named (es ++ e ∷ []) (insert_key text_eq ns e.name)
           → cond b ((n, F (entries_named es e.name ++ e ∷ [])) ∷ each_named es ns) ((n, F (entries_named es n)) ∷ insert_entry text_eq (each_named es ns) e.name (F (entries_named es e.name ++ e ∷ [])))
@@ -67,9 +67,9 @@ module _ {A : Type 0} (F : List ConfigEntry → A) where
           ∙ (ap (λ xs. (n, F xs) ∷ each_named es ns) (sym (named_here es e n f))
           ∙ ap (λ xs. (n, F (entries_named (es ++ e ∷ []) n)) ∷ xs) (sym (others_same es e ns (subst (λ (x : List ℕ). list_any (text_eq x) ns ≡ false) (sym same) a.0))))
       by false f r = ap (λ xs. (n, F xs) ∷ insert_entry text_eq (each_named es ns) e.name (F (entries_named es e.name ++ e ∷ []))) (sym (named_elsewhere es e n f))
-          ∙ (ap (λ xs. (n, F (entries_named (es ++ e ∷ []) n)) ∷ xs) r ∙ behind (list_any (text_eq e.name) ns))
+          ∙ (ap (λ xs. (n, F (entries_named (es ++ e ∷ []) n)) ∷ xs) r ∙ later (list_any (text_eq e.name) ns))
 
-  -- and tells what is there
+  -- and has what is declared
   pub look_named : (es : List ConfigEntry) (name : List ℕ) (ns : List (List ℕ)) → lookup (text_eq name) (each_named es ns) ≡ cond (list_any (text_eq name) ns) (Some (F (entries_named es name))) None
   look_named es name [] = refl
   look_named es name (n ∷ ns) = by (text_eq name n) refl (look_named es name ns)

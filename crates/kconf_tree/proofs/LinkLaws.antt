@@ -6,7 +6,7 @@ use Rattle.std.proofs.lemmas.List.Elements.{All-set, All-push, All-get_or, All-n
 use Rattle.std.proofs.lemmas.List.Quantifiers.{position-Some}
 use Rattle.std.proofs.lemmas.List.Sums.{position_or_len_is}
 use Rattle.std.specs.List.{list_any, position_or_len}
-use Rattle.ut_logic.specs.Text.{text_eq, text_eq-exact, text_equiv}
+use Rattle.ut_text.specs.Text.{text_eq, text_eq-exact, text_equiv}
 use Rattle.kconf_entries.specs.declared.entries.SelectOf.{SelectOf}
 use Rattle.kconf_tree.specs.declared.shape.Symbol.{Symbol}
 use Rattle.kconf_tree.specs.declared.shape.Selector.{Selector}
@@ -40,11 +40,11 @@ apart_at (s ∷ ss) zero (suc k) a h l = none_at s.name ss k a.0 (omega arith)
 apart_at (s ∷ ss) (suc j) zero a h l = absurd (omega arith)
 apart_at (s ∷ ss) (suc j) (suc k) a h l = apart_at ss j k a.1 (omega arith) (omega arith)
 
--- the row of a symbol, with whatever stands behind the last one
+-- the row of a symbol, with any default past the last one
 pub row_at : (t : Shape) (link : Link) (rows : List (List Selector)) → AreRows t link rows → (k : ℕ) (d : List Selector) → k < length t.symbols → map (linker_of t link) (get_or rows k d) ≡ linkers_of link t k
 row_at t link rows r k d l = ap (map (linker_of t link)) (get_or_default rows k d [] (subst (λ n. k < n) (sym r.count) l)) ∙ r.each k l
 
--- what is there stays there where a row has one more
+-- what a row has stays where it gets one more
 pub linkers_with : (t : Shape) (link : Link) (rows : List (List Selector)) (o : Option ℕ) (s : Selector) → AreLinkers t link rows → IsLinker t link s → AreLinkers t link (with_one rows o s)
 linkers_with t link rows None s h e = h
 linkers_with t link rows (Some k) s h e = All-set (All (IsLinker t link)) rows k (get_or rows k [] ++ s ∷ []) (All-push (IsLinker t link) (get_or rows k []) s (at (cases_lt k (length rows))) e) h

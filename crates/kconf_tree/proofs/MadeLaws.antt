@@ -14,7 +14,7 @@ use Rattle.kconf_tree.specs.Apart.{AreApart}
 use Rattle.kconf_tree.specs.Built.{HaveChoices}
 use Rattle.kconf_tree.proofs.Bounds.{members_below}
 use Rattle.kconf_tree.proofs.Small.{or_left, or_right, or_cases, number_is, number_self}
-use Rattle.kconf_tree.specs.Made.{is_among, IsWellMade}
+use Rattle.kconf_tree.specs.WellMade.{is_among, IsWellMade}
 
 -- ---- the places at which a test passes
 
@@ -80,16 +80,17 @@ is_some_of : (o : Option ℕ) (i : ℕ) → is_the o i ≡ true → o ≡ Some i
 is_some_of None i h = absurd (false≢true h)
 is_some_of (Some k) i h = ap Some (number_is k i h)
 
-behind : (ss : List Symbol) (k : ℕ) → length ss ≤ k → get_or ss k no_symbol ≡ no_symbol
-behind [] k l = refl
-behind (s ∷ ss) zero l = absurd (omega arith)
-behind (s ∷ ss) (suc k) l = behind ss k (omega arith)
+-- past the last symbol
+pub symbol_past : (ss : List Symbol) (k : ℕ) → length ss ≤ k → get_or ss k no_symbol ≡ no_symbol
+symbol_past [] k l = refl
+symbol_past (s ∷ ss) zero l = absurd (omega arith)
+symbol_past (s ∷ ss) (suc k) l = symbol_past ss k (omega arith)
 
 -- a member is a symbol
 pub member_within : (t : Shape) → IsWellMade t → (i j : ℕ) → is_among (choice_at t i).members j ≡ true → j < length t.symbols
 member_within t made i j h = elim (cases_lt j (length t.symbols)) [
   | inl lt ↦ lt
-  | inr ge ↦ absurd (let none : None ≡ Some i = sym (ap (λ (s : Symbol). s.member_of) (behind t.symbols j ge)) ∙ made.of_choice i j h in cc)
+  | inr ge ↦ absurd (let none : None ≡ Some i = sym (ap (λ (s : Symbol). s.member_of) (symbol_past t.symbols j ge)) ∙ made.of_choice i j h in cc)
 ]
 
 module _ (e : Entries) where
@@ -115,12 +116,12 @@ module _ (e : Entries) where
 
   listed_here : HaveChoices e → (i j : ℕ) → (symbol_at t j).member_of ≡ Some i → is_among (choice_at t i).members j ≡ true
   listed_here have i j h = elim (cases_lt j (length (symbols_of e.configs))) [
-    | inl lt ↦ let below : IfSome (symbol_at t j).member_of (λ k. k < length e.choices) = All-get_or (λ (s : Symbol). IfSome s.member_of (λ k. k < length e.choices)) (symbols_of e.configs) j no_symbol lt (members_below (length e.choices) e.configs have.there) in
+    | inl lt ↦ let below : IfSome (symbol_at t j).member_of (λ k. k < length e.choices) = All-get_or (λ (s : Symbol). IfSome s.member_of (λ k. k < length e.choices)) (symbols_of e.configs) j no_symbol lt (members_below (length e.choices) e.configs have.named) in
         let there : i < length e.choices = subst (λ (o : Option ℕ). IfSome o (λ k. k < length e.choices)) h below in
         let plain : 0 + j ≡ j = omega arith in
         subst (λ (ms : List ℕ). is_among ms j ≡ true) (sym (members_here i there))
         (subst (λ (k : ℕ). is_among (places_from 0 (is_member_of i) (symbols_of e.configs)) k ≡ true) plain (places_have (is_member_of i) 0 j (symbols_of e.configs) lt (ap (λ (o : Option ℕ). is_the o i) h ∙ number_self i)))
-    | inr ge ↦ absurd (let none : None ≡ Some i = sym (ap (λ (s : Symbol). s.member_of) (behind (symbols_of e.configs) j ge)) ∙ h in cc)
+    | inr ge ↦ absurd (let none : None ≡ Some i = sym (ap (λ (s : Symbol). s.member_of) (symbol_past (symbols_of e.configs) j ge)) ∙ h in cc)
   ]
 
   pub made_here : HaveChoices e → IsWellMade t

@@ -1,6 +1,6 @@
 -- The number of a symbol by its name, and that no two have one name.
 use Rattle.std.proofs.Common.{◌≡◌, ℕ, List, position, ap, sym, ◌∙◌}
-use Rattle.ut_logic.specs.Text.{text_eq}
+use Rattle.ut_text.specs.Text.{text_eq}
 use Rattle.kconf_tree.specs.declared.shape.Symbol.{Symbol}
 use Rattle.kconf_tree.specs.Shape.{Shape, number_of}
 use Rattle.kconf_tree.specs.Apart.{names_in}

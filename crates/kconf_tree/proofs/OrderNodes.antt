@@ -9,14 +9,14 @@ use Rattle.ut_logic.specs.Node.{node_eq}
 use Rattle.kconf_entries.specs.declared.entries.Entries.{Entries}
 use Rattle.kconf_tree.specs.declared.shape.Choice.{Choice as OneChoice}
 use Rattle.kconf_tree.specs.Shape.{Shape, symbol_at, choice_at, no_choice}
-use Rattle.kconf_tree.specs.Arranged.{Arranged}
+use Rattle.kconf_tree.specs.OrderedTree.{OrderedTree}
 use Rattle.kconf_tree.specs.Built.{HaveChoices}
 use Rattle.kconf_tree.specs.Gathered.{distinct, gathered}
 use Rattle.kconf_tree.specs.References.{node_by, node_of}
 use Rattle.kconf_tree.specs.Orders.{nodes_of, node_at, graph_of, with_members, empty_choices, IsOrder}
 use Rattle.kconf_tree.proofs.Small.{or_left, or_right, number_self}
 use Rattle.kconf_tree.proofs.GraphOrders.{length-graph}
-use Rattle.kconf_tree.specs.Made.{is_among, IsWellMade, IsNodeOf, IsArranged}
+use Rattle.kconf_tree.specs.WellMade.{is_among, IsWellMade, IsNodeOf, IsOrderedTree}
 use Rattle.kconf_tree.proofs.MadeLaws.{made_here, member_within}
 
 range_below : (a n m : ℕ) → a + n ≤ m → All (λ k. k < m) (range_with_len a n)
@@ -35,10 +35,10 @@ all_flat : (P : Node → Type 0) (f : ℕ → List Node) (xs : List ℕ) → All
 all_flat P f [] h = All-nil P
 all_flat P f (x ∷ xs) h = All-append P (f x) (flat_map f xs) (All-head (λ a. All P (f a)) x xs h) (all_flat P f xs (All-tail (λ a. All P (f a)) x xs h))
 
-choice_behind : (cs : List OneChoice) (i : ℕ) → length cs ≤ i → get_or cs i no_choice ≡ no_choice
-choice_behind [] i l = refl
-choice_behind (c ∷ cs) zero l = absurd (omega arith)
-choice_behind (c ∷ cs) (suc i) l = choice_behind cs i (omega arith)
+no_choice_past : (cs : List OneChoice) (i : ℕ) → length cs ≤ i → get_or cs i no_choice ≡ no_choice
+no_choice_past [] i l = refl
+no_choice_past (c ∷ cs) zero l = absurd (omega arith)
+no_choice_past (c ∷ cs) (suc i) l = no_choice_past cs i (omega arith)
 
 module _ (t : Shape) where
   empties_within : (n : ℕ) (cs : List OneChoice) → n + length cs ≤ length t.choices → All (IsNodeOf t) (empty_choices n cs)
@@ -56,7 +56,7 @@ module _ (t : Shape) where
         there : (i : ℕ) → (symbol_at t k).member_of ≡ Some i → i < length t.choices
         there i e = elim (cases_lt i (length t.choices)) [
           | inl lt ↦ lt
-          | inr ge ↦ absurd (false≢true (subst (λ (c : OneChoice). is_among c.members k ≡ true) (choice_behind t.choices i ge) (made.listed i k e)))
+          | inr ge ↦ absurd (false≢true (subst (λ (c : OneChoice). is_among c.members k ≡ true) (no_choice_past t.choices i ge) (made.listed i k e)))
         ]
 
         by : (o : Option ℕ) → (symbol_at t k).member_of ≡ o → IsNodeOf t (node_by k o)
@@ -79,7 +79,7 @@ module _ (t : Shape) where
         (all_flat (IsNodeOf t) (λ k. with_members t (node_at t k)) o.numbers (All-weaker (λ a. a < length (graph_of t)) (λ a. All (IsNodeOf t) (with_members t (node_at t a))) (λ a l. beside_within (node_at t a) (All-get_or (IsNodeOf t) (nodes_of t) a (Sym 0) (subst (λ n. a < n) (length-graph t) l) nodes_within)) o.numbers o.orders.only))
         (empties_within 0 t.choices (omega arith)))
 
--- a tree of entries with its order is arranged
-pub arranged_here : (e : Entries) (t : Arranged) → HaveChoices e → t.shape ≡ gathered e → IsOrder t.shape t.order → IsArranged t
-arranged_here e t have whole ordered = let made : IsWellMade t.shape = subst IsWellMade (sym whole) (made_here e have) in
+-- a tree of entries with its order is well made and ordered
+pub ordered_here : (e : Entries) (t : OrderedTree) → HaveChoices e → t.shape ≡ gathered e → IsOrder t.shape t.order → IsOrderedTree t
+ordered_here e t have whole ordered = let made : IsWellMade t.shape = subst IsWellMade (sym whole) (made_here e have) in
     record { made = made; ordered = ordered; within = order_within t.shape made t.order ordered }

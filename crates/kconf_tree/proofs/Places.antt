@@ -7,7 +7,7 @@ use Rattle.indexmap.specs.IndexSet.{insert_key}
 use Rattle.kconf_tree.specs.Gathered.{distinct}
 use Rattle.kconf_tree.specs.Apart.{AreApart}
 
--- a test behind a map
+-- a test after a map
 pub position_or_len-map : {A B : Type 0} (f : A → B) (p : B → Bool) (xs : List A) → position_or_len p (map f xs) ≡ position_or_len (λ x. p (f x)) xs
 position_or_len-map f p [] = refl
 position_or_len-map f p (x ∷ xs) = ap (λ n. cond (not (p (f x))) (1 + n) 0) (position_or_len-map f p xs)
@@ -101,7 +101,7 @@ module _ {A : Type 0} (eq : A → A → Bool) (laws : IsEquivalence eq) where
       by false e false f = ap (λ zs. y ∷ zs) (filter_push (λ z. not (eq y z)) (distinct eq ys) x ∙ ap (λ b. cond (not b) (filter (λ z. not (eq y z)) (distinct eq ys) ++ x ∷ []) (filter (λ z. not (eq y z)) (distinct eq ys))) (laws.symm y x ∙ e))
           ∙ sym (ap (λ b. cond b (y ∷ filter (λ z. not (eq y z)) (distinct eq ys)) (y ∷ filter (λ z. not (eq y z)) (distinct eq ys) ++ x ∷ [])) (any_kept x y (distinct eq ys) e ∙ f))
 
--- what is there has a place within the list
+-- an element has a place within the list
 pub place_within : {A : Type 0} (p : A → Bool) (xs : List A) → list_any p xs ≡ true → position_or_len p xs < length xs
 place_within p [] h = absurd (false≢true h)
 place_within p (x ∷ xs) h = by (p x) h (place_within p xs)
@@ -113,7 +113,7 @@ place_within p (x ∷ xs) h = by (p x) h (place_within p xs)
 pub position_found : {A : Type 0} (p : A → Bool) (xs : List A) → list_any p xs ≡ true → position p xs ≡ Some (position_or_len p xs)
 position_found p xs h = ap (λ b. cond b (Some (position_or_len p xs)) None) (lt-ltb _ _ (place_within p xs h))
 
--- what is read at a place, behind a map
+-- what is read at a place of a mapped list
 pub read_mapped : {A B : Type 0} (f : A → B) (xs : List A) (k : ℕ) (x : A) (d : B) → slice_get xs k ≡ Some x → get_or (map f xs) k d ≡ f x
 read_mapped f [] k x d h = absurd (cc)
 read_mapped f (y ∷ ys) zero x d h = ap f (cc)
@@ -127,7 +127,7 @@ place_most p (x ∷ xs) = by (p x) (place_most p xs)
     by true g = omega arith
     by false g = omega (arith, g)
 
--- what isn't there has the place behind the list
+-- what is no element has the place past the list
 pub no_place : {A : Type 0} (p : A → Bool) (xs : List A) → position p xs ≡ None → length xs ≡ position_or_len p xs
 no_place p xs h = by (ltb (position_or_len p xs) (length xs)) refl h
   where

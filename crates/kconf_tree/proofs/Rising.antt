@@ -6,7 +6,7 @@ use Rattle.std.proofs.lemmas.Cmp.{eq_by_cmp_equiv}
 use Rattle.std.specs.List.{list_any}
 use Rattle.std.specs.Ordering.{eq_by_cmp}
 use Rattle.std.specs.BTreeSet.{BTreeSet, contains}
-use Rattle.ut_logic.specs.Text.{text_cmp, text_total}
+use Rattle.ut_text.specs.Text.{text_cmp, text_total}
 
 pub any_push : {A : Type 0} (p : A → Bool) (xs : List A) (x : A) → list_any p (xs ++ x ∷ []) ≡ cond (p x) true (list_any p xs)
 any_push p [] x = one (p x)

@@ -6,7 +6,7 @@ use Rattle.std.proofs.lemmas.List.Concat.{flat_map-append}
 use Rattle.std.proofs.lemmas.List.{map-append, length-map}
 use Rattle.std.specs.List.{list_any, position_or_len, flat_map}
 use Rattle.std.specs.Option.{option_or}
-use Rattle.ut_logic.specs.Text.{text_eq, text_equiv, text_eq-exact}
+use Rattle.ut_text.specs.Text.{text_eq, text_equiv, text_eq-exact}
 use Rattle.kconf_entries.specs.declared.entries.Kind.{Kind}
 use Rattle.kconf_entries.specs.declared.entries.ConfigEntry.{ConfigEntry}
 use Rattle.kconf_tree.specs.declared.shape.Symbol.{Symbol}
@@ -81,8 +81,8 @@ module _ (all : List ConfigEntry) where
   set_named es e [] a h = absurd (false≢true h)
   set_named es e (n ∷ ns) a h = by (text_eq e.name n) refl h (set_named es e ns a.1)
     where
-      behind : (k : ℕ) → set (map (after es) (n ∷ ns)) (1 + k) (with_entry (get_or (map (after es) (n ∷ ns)) (1 + k) no_symbol) e) ≡ after es n ∷ set (map (after es) ns) k (with_entry (get_or (map (after es) ns) k no_symbol) e)
-      behind k = let one : 1 + k ≡ suc k = omega arith in ap (λ j. set (map (after es) (n ∷ ns)) j (with_entry (get_or (map (after es) (n ∷ ns)) j no_symbol) e)) one
+      later : (k : ℕ) → set (map (after es) (n ∷ ns)) (1 + k) (with_entry (get_or (map (after es) (n ∷ ns)) (1 + k) no_symbol) e) ≡ after es n ∷ set (map (after es) ns) k (with_entry (get_or (map (after es) ns) k no_symbol) e)
+      later k = let one : 1 + k ≡ suc k = omega arith in ap (λ j. set (map (after es) (n ∷ ns)) j (with_entry (get_or (map (after es) (n ∷ ns)) j no_symbol) e)) one
 
       by : (b : Bool) → text_eq e.name n ≡ b → (b || list_any (text_eq e.name) ns) ≡ true
           → (list_any (text_eq e.name) ns ≡ true → set (map (after es) ns) (position_or_len (text_eq e.name) ns) (with_entry (get_or (map (after es) ns) (position_or_len (text_eq e.name) ns) no_symbol) e) ≡ map (after (es ++ e ∷ [])) ns)
@@ -94,7 +94,7 @@ module _ (all : List ConfigEntry) where
       by false f g r =
           let here = ap (λ xs. symbol_by (first_kind (entries_named all n)) xs n) (sym (named_elsewhere es e n f)) in
           let rest = r g in
-          behind (position_or_len (text_eq e.name) ns) ∙ (λ i. here i ∷ rest i)
+          later (position_or_len (text_eq e.name) ns) ∙ (λ i. here i ∷ rest i)
 
   abbrev declared_named : List ℕ → List ℕ × Declared
   declared_named n = (n, declared_by (entries_named all n))
@@ -117,22 +117,22 @@ module _ (all : List ConfigEntry) where
       each [] = refl
       each (n ∷ ns) = let rest = each ns in let m = sym (no_member (first_kind (entries_named all n))) in λ i. record (after [] n) { member_of = m i } ∷ rest i
 
-  -- as many as there are names
+  -- as many as names
   pub length-after : (es : List ConfigEntry) → length (symbols_after all es) ≡ length (types_of all)
   length-after es = length-map (names_of all) (after es) ∙ sym (length-map (names_of all) declared_named)
 
 -- an entry's name is declared
-pub named_among : (before : List ConfigEntry) (e : ConfigEntry) (behind : List ConfigEntry) → list_any (text_eq e.name) (names_of (before ++ e ∷ behind)) ≡ true
-named_among before e behind = distinct_has text_eq text_equiv e.name (map (λ (x : ConfigEntry). x.name) (before ++ e ∷ behind)) ∙ there before
+pub named_among : (before : List ConfigEntry) (e : ConfigEntry) (later : List ConfigEntry) → list_any (text_eq e.name) (names_of (before ++ e ∷ later)) ≡ true
+named_among before e later = distinct_has text_eq text_equiv e.name (map (λ (x : ConfigEntry). x.name) (before ++ e ∷ later)) ∙ there before
   where
     here : (b c : Bool) → b ≡ true → (b || c) ≡ true
     here true c h = refl
     here false c h = absurd (false≢true h)
 
-    behind_one : (b c : Bool) → c ≡ true → (b || c) ≡ true
-    behind_one true c h = refl
-    behind_one false c h = h
+    after_one : (b c : Bool) → c ≡ true → (b || c) ≡ true
+    after_one true c h = refl
+    after_one false c h = h
 
-    there : (xs : List ConfigEntry) → list_any (text_eq e.name) (map (λ (x : ConfigEntry). x.name) (xs ++ e ∷ behind)) ≡ true
-    there [] = here (text_eq e.name e.name) (list_any (text_eq e.name) (map (λ (x : ConfigEntry). x.name) behind)) (text_equiv.refl e.name)
-    there (x ∷ xs) = behind_one (text_eq e.name x.name) (list_any (text_eq e.name) (map (λ (y : ConfigEntry). y.name) (xs ++ e ∷ behind))) (there xs)
+    there : (xs : List ConfigEntry) → list_any (text_eq e.name) (map (λ (x : ConfigEntry). x.name) (xs ++ e ∷ later)) ≡ true
+    there [] = here (text_eq e.name e.name) (list_any (text_eq e.name) (map (λ (x : ConfigEntry). x.name) later)) (text_equiv.refl e.name)
+    there (x ∷ xs) = after_one (text_eq e.name x.name) (list_any (text_eq e.name) (map (λ (y : ConfigEntry). y.name) (xs ++ e ∷ later))) (there xs)

@@ -4,7 +4,7 @@ use Rattle.std.proofs.lemmas.List.Folds.{list_any-append}
 use Rattle.std.specs.List.{list_any}
 use Rattle.std.specs.Map.{lookup}
 use Rattle.indexmap.specs.IndexMap.{insert_entry}
-use Rattle.ut_logic.specs.Text.{text_eq, text_equiv}
+use Rattle.ut_text.specs.Text.{text_eq, text_equiv}
 use Rattle.kconf_entries.specs.declared.entries.Kind.{Kind}
 use Rattle.kconf_entries.specs.declared.entries.Kind.TheVariants as kind
 use Rattle.kconf_entries.specs.declared.entries.ConfigEntry.{ConfigEntry}

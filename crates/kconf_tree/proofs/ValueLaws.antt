@@ -14,7 +14,8 @@ use Rattle.kconf_entries.specs.declared.expr.Expr.TheFolds.{fold-roll-Expr, map-
 use Rattle.kconf_tree.specs.Shape.{Shape, number_of, outer_at, counts_as}
 use Rattle.kconf_tree.specs.declared.place.Place.{Place}
 use Rattle.kconf_tree.specs.declared.place.Place.TheVariants.{Condition, Value}
-use Rattle.kconf_tree.specs.Value.{Configuration, value_in, value_step, named, side_value, const_value, compared, compares_trits, comparison_text, outer_value, least, greatest, has_modules, stands_for}
+use Rattle.kconf_entries.specs.Written.{comparison_text}
+use Rattle.kconf_tree.specs.Value.{Configuration, value_in, value_step, named, side_value, const_value, compared, compares_trits, outer_value, least, greatest, has_modules, stands_for}
 use Rattle.kconf_tree.specs.References.{numbers_in, numbers_step, side_numbers, const_numbers}
 
 -- the configurations have the same value at each number of the list

@@ -2,7 +2,7 @@
 use Rattle.std.proofs.Common.{◌≡◌, ◌≢◌, ℕ, ◌==◌, ◌&&◌, eq-eqb, Bool, true, false, Option, None, Some, List, [], ◌∷◌, ◌++◌, length, refl, ap, sym, ◌∙◌, append_assoc, arith, MatchOption, Bor}
 use Rattle.std.proofs.lemmas.Bool.Decides.{nat_tests}
 use Rattle.std.proofs.lemmas.List.{append-nil}
-use Rattle.ut_logic.specs.Text.{text_eq, text_eq-exact, text_equiv}
+use Rattle.ut_text.specs.Text.{text_eq, text_eq-exact, text_equiv}
 
 -- no text begins so
 abbrev pub Missing : List ℕ → List ℕ → Type 0
@@ -15,15 +15,15 @@ append_cancel (x ∷ p) r s h = append_cancel p r s (cc)
 pub missing_front : (s p q : List ℕ) → Missing s p → Missing s (p ++ q)
 missing_front s p q m = λ rest e. m (q ++ rest) (e ∙ append_assoc p q rest)
 
-pub missing_behind : (s p q r : List ℕ) → s ≡ p ++ r → Missing r q → Missing s (p ++ q)
-missing_behind s p q r h m = λ rest e. m rest (append_cancel p r (q ++ rest) (sym h ∙ (e ∙ append_assoc p q rest)))
+pub missing_after : (s p q r : List ℕ) → s ≡ p ++ r → Missing r q → Missing s (p ++ q)
+missing_after s p q r h m = λ rest e. m rest (append_cancel p r (q ++ rest) (sym h ∙ (e ∙ append_assoc p q rest)))
 
-pub found_behind : (s p q r x : List ℕ) → s ≡ p ++ r → r ≡ q ++ x → s ≡ p ++ q ++ x
-found_behind s p q r x h g = h ∙ (ap (λ ys. p ++ ys) g ∙ sym (append_assoc p q x))
+pub found_after : (s p q r x : List ℕ) → s ≡ p ++ r → r ≡ q ++ x → s ≡ p ++ q ++ x
+found_after s p q r x h g = h ∙ (ap (λ ys. p ++ ys) g ∙ sym (append_assoc p q x))
 
-pub match_behind : (s p q x : List ℕ) (r : Option (Bor (List ℕ))) → s ≡ p ++ x → MatchOption r (Missing x q) (λ y. x ≡ q ++ y.now) → MatchOption r (Missing s (p ++ q)) (λ y. s ≡ p ++ q ++ y.now)
-match_behind s p q x None h m = missing_behind s p q x h m
-match_behind s p q x (Some y) h m = found_behind s p q x y.now h m
+pub match_after : (s p q x : List ℕ) (r : Option (Bor (List ℕ))) → s ≡ p ++ x → MatchOption r (Missing x q) (λ y. x ≡ q ++ y.now) → MatchOption r (Missing s (p ++ q)) (λ y. s ≡ p ++ q ++ y.now)
+match_after s p q x None h m = missing_after s p q x h m
+match_after s p q x (Some y) h m = found_after s p q x y.now h m
 
 pub match_none : (s p : List ℕ) (r : Option (Bor (List ℕ))) → r ≡ None → Missing s p → MatchOption r (Missing s p) (λ y. s ≡ p ++ y.now)
 match_none s p None e m = m

@@ -9,15 +9,15 @@ use Rattle.kconf_tree.specs.declared.bad.TreeBad.TheVariants.{TooMany, Recursive
 use Rattle.kconf_tree.specs.Gathered.{gathered}
 use Rattle.kconf_tree.specs.Limits.{first_passed}
 use Rattle.kconf_tree.specs.Orders.{IsOrder, IsAccepted, IsFirstCycle}
-use Rattle.kconf_tree.specs.Arranged.{Arranged}
+use Rattle.kconf_tree.specs.OrderedTree.{OrderedTree}
 
--- each choice that a config stands in is there, and a u32 has room for their numbers
+-- each choice that a config names exists, and the numbers of choices fit a u32
 pub record HaveChoices (e : Entries) : Type 0 where
-  pub there : All (λ (c : ConfigEntry). IfSome c.choice (λ i. i < length e.choices)) e.configs
+  pub named : All (λ (c : ConfigEntry). IfSome c.choice (λ i. i < length e.choices)) e.configs
   pub numbered : length e.choices < 2 ^ 32
 
 -- the tree of the entries, within the limits, with an order
-pub record IsTreeOf (e : Entries) (t : Arranged) : Type 0 where
+pub record IsTreeOf (e : Entries) (t : OrderedTree) : Type 0 where
   pub gathered_whole : t.shape ≡ gathered e
   pub within : first_passed (gathered e) ≡ None
   pub ordered : IsOrder (gathered e) t.order

@@ -1,6 +1,7 @@
 -- How choices get their types and members, one entry or symbol after another. No public contract cites
 -- this module.
 use Rattle.std.specs.Prelude.{ℕ, Bool, false, not, ◌&&◌, List, [], ◌∷◌, ◌++◌, Option, None, Some, if◌then◌else◌, slice_index_or, slice_set, suc}
+use Rattle.ut_text.specs.Bytes.{Bytes}
 use Rattle.kconf_entries.specs.declared.entries.Kind.{Kind}
 use Rattle.kconf_entries.specs.declared.entries.Kind.TheVariants as kind
 use Rattle.kconf_entries.specs.declared.entries.ConfigEntry.{ConfigEntry}
@@ -14,12 +15,12 @@ use Rattle.kconf_tree.specs.Gathered.{is_untyped}
 use Rattle.kconf_tree.specs.Types.{typed, declared_at}
 
 -- a type line of a symbol that has no text or number
-abbrev pub is_type_line : List (List ℕ × Declared) → Kind → Option ℕ → Bool
+abbrev pub is_type_line : List (Bytes × Declared) → Kind → Option ℕ → Bool
 is_type_line ts k None = false
 is_type_line ts k (Some n) = not (is_untyped k) && not (is_text_or_number (declared_at ts n).kind)
 
 -- whether the entry has one
-abbrev pub has_type_line : List (List ℕ × Declared) → ConfigEntry → Bool
+abbrev pub has_type_line : List (Bytes × Declared) → ConfigEntry → Bool
 has_type_line ts e = is_type_line ts e.kind (number_of (typed ts) e.name)
 
 -- the types of the choices, where the one with this number has another line
@@ -28,11 +29,11 @@ typed_at line k ks None = ks
 typed_at line k ks (Some i) = if is_untyped (slice_index_or ks i kind.Untyped) && line then slice_set ks i k else ks
 
 -- after one entry
-abbrev pub typed_by : List (List ℕ × Declared) → List Kind → ConfigEntry → List Kind
+abbrev pub typed_by : List (Bytes × Declared) → List Kind → ConfigEntry → List Kind
 typed_by ts ks e = typed_at (has_type_line ts e) e.kind ks e.choice
 
 -- after all entries
-abbrev pub typed_by_all : List (List ℕ × Declared) → List Kind → List ConfigEntry → List Kind
+abbrev pub typed_by_all : List (Bytes × Declared) → List Kind → List ConfigEntry → List Kind
 typed_by_all ts ks [] = ks
 typed_by_all ts ks (e ∷ es) = typed_by_all ts (typed_by ts ks e) es
 

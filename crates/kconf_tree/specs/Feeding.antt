@@ -4,20 +4,21 @@ use Rattle.std.specs.Prelude.{◌≡◌, ℕ, Bool, true, ◌&&◌, List, ◌++�
 use Rattle.std.specs.List.{flat_map}
 use Rattle.std.specs.Cmp.{first_so, second_so}
 use Rattle.std.specs.Hash as fed
-use Rattle.ut_logic.specs.Text.{text_eq, text_eq-exact}
+use Rattle.ut_text.specs.Bytes.{Bytes}
+use Rattle.ut_text.specs.Text.{text_eq, text_eq-exact}
 use Rattle.kconf_tree.specs.declared.asked_comparison.Spelled.{Spelled}
 use Rattle.kconf_tree.specs.declared.asked_comparison.AskedComparison.{AskedComparison}
 
 -- each byte by itself
-abbrev pub byte_writes : List ℕ → List (List ℕ)
+abbrev pub byte_writes : Bytes → List Bytes
 byte_writes = flat_map fed.u8
 
--- the word between what stands before and behind it
-abbrev pub spelled_text : Spelled → List ℕ
+-- the word between its quotes
+abbrev pub spelled_text : Spelled → Bytes
 spelled_text s = s.quote.now ++ s.word.now ++ s.quote.now
 
 -- both sides and the sign, with one space between
-abbrev pub asked_text : AskedComparison → List ℕ
+abbrev pub asked_text : AskedComparison → Bytes
 asked_text q = spelled_text q.left ++ codes " " ++ q.sign.now ++ codes " " ++ spelled_text q.right
 
 -- the same pieces

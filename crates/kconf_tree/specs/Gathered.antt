@@ -5,7 +5,8 @@
 use Rattle.std.specs.Prelude.{ℕ, Bool, true, false, not, ◌&&◌, List, [], ◌∷◌, ◌++◌, Option, None, if◌then◌else◌, map, filter, position, suc, is_some}
 use Rattle.std.specs.Option.{option_or}
 use Rattle.std.specs.List.{list_any, flat_map}
-use Rattle.ut_logic.specs.Text.{text_eq}
+use Rattle.ut_text.specs.Bytes.{Bytes}
+use Rattle.ut_text.specs.Text.{text_eq}
 use Rattle.kconf_entries.specs.declared.expr.Expr.{Expr}
 use Rattle.kconf_entries.specs.declared.expr.Expr.TheOpen.{Expr-F}
 use Rattle.kconf_entries.specs.declared.expr.Expr.TheFolds.{fold-Expr}
@@ -19,7 +20,8 @@ use Rattle.kconf_entries.specs.declared.entries.Entries.{Entries}
 use Rattle.kconf_tree.specs.declared.shape.Symbol.{Symbol}
 use Rattle.kconf_tree.specs.declared.shape.Choice.{Choice}
 use Rattle.kconf_tree.specs.Shape.{Shape, is_the}
-use Rattle.kconf_tree.specs.Value.{is_text_or_number, compares_trits, comparison_text}
+use Rattle.kconf_entries.specs.Written.{comparison_text}
+use Rattle.kconf_tree.specs.Value.{is_text_or_number, compares_trits}
 
 -- the elements of a list, each at its first place
 abbrev pub distinct : {A : Type 0} → (A → A → Bool) → List A → List A
@@ -27,11 +29,11 @@ distinct eq [] = []
 distinct eq (x ∷ xs) = x ∷ filter (λ y. not (eq x y)) (distinct eq xs)
 
 -- the texts of a list, each at its first place
-abbrev pub once : List (List ℕ) → List (List ℕ)
+abbrev pub once : List Bytes → List Bytes
 once = distinct text_eq
 
 -- the entries of one name
-abbrev pub entries_named : List ConfigEntry → List ℕ → List ConfigEntry
+abbrev pub entries_named : List ConfigEntry → Bytes → List ConfigEntry
 entries_named es name = filter (λ e. text_eq e.name name) es
 
 -- an entry without a type line
@@ -54,7 +56,7 @@ abbrev pub member_choice : Kind → Option ℕ → Option ℕ
 member_choice k choice = if is_text_or_number k then None else choice
 
 -- the symbol of the entries of one name
-abbrev pub symbol_of : List ConfigEntry → List ℕ → Symbol
+abbrev pub symbol_of : List ConfigEntry → Bytes → Symbol
 symbol_of es name = record {
   name = name;
   kind = first_kind es;
@@ -125,18 +127,18 @@ is_bool_or_tristate s = by s.kind
 abbrev pub has_modules_line : List ConfigEntry → Symbol → Bool
 has_modules_line es s = list_any (λ (e : ConfigEntry). e.modules) (entries_named es s.name)
 
--- its number, if there is one
+-- the number of the modules symbol
 abbrev pub modules_of : List ConfigEntry → Option ℕ
 modules_of es = position (λ s. is_bool_or_tristate s && has_modules_line es s) (symbols_of es)
 
 -- ---- outer conditions, by first appearance in the entries
 
 -- the texts of all parts, in order
-abbrev pub joined : List (List (List ℕ)) → List (List ℕ)
+abbrev pub joined : List (List Bytes) → List Bytes
 joined = flat_map (λ texts. texts)
 
--- `t` tells the types that names are declared with
-abbrev pub outers_step : Shape → Expr-F (List (List ℕ)) → List (List ℕ)
+-- `t` has the types that names are declared with
+abbrev pub outers_step : Shape → Expr-F (List Bytes) → List Bytes
 outers_step t (Expr-F.Outer text) = text ∷ []
 outers_step t (Expr-F.Compare left s right) = if compares_trits t left s right then [] else comparison_text left s right ∷ []
 outers_step t (Expr-F.Neg texts) = texts
@@ -145,22 +147,22 @@ outers_step t (Expr-F.Or lists) = joined lists
 outers_step t e = []
 
 -- the outer conditions in an expression, in order
-abbrev pub outers_in : Shape → Expr → List (List ℕ)
-outers_in t = fold-Expr (List (List ℕ)) (outers_step t)
+abbrev pub outers_in : Shape → Expr → List Bytes
+outers_in t = fold-Expr (List Bytes) (outers_step t)
 
 -- in an entry, in the order of its properties
-abbrev pub outers_of_config : Shape → ConfigEntry → List (List ℕ)
+abbrev pub outers_of_config : Shape → ConfigEntry → List Bytes
 outers_of_config t e = outers_in t e.depends ++ flat_map (outers_in t) e.prompts
     ++ flat_map (λ (d : DefaultOf). outers_in t d.value ++ outers_in t d.cond) e.defaults
     ++ flat_map (λ (s : SelectOf). outers_in t s.cond) e.selects ++ flat_map (λ (s : SelectOf). outers_in t s.cond) e.implies
 
 -- in a choice
-abbrev pub outers_of_choice : Shape → ChoiceEntry → List (List ℕ)
+abbrev pub outers_of_choice : Shape → ChoiceEntry → List Bytes
 outers_of_choice t e = flat_map (outers_in t) e.prompts ++ flat_map (λ (s : SelectOf). outers_in t s.cond) e.defaults
 
 -- ---- the tree
 
--- the symbols and choices alone, which tell the types of names
+-- the symbols and choices alone, which have the types of names
 abbrev pub without_outers : Entries → Shape
 without_outers e = record { symbols = symbols_of e.configs; choices = choices_from e.configs 0 e.choices; outers = []; modules = modules_of e.configs }
 

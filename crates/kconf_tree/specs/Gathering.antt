@@ -1,6 +1,7 @@
 -- How symbols and choices are gathered, one entry after another. No public contract cites this module.
 use Rattle.std.specs.Prelude.{ℕ, List, [], ◌∷◌, ◌++◌, Option, None, Some, slice_index_or, slice_set, map}
 use Rattle.std.specs.Option.{option_or}
+use Rattle.ut_text.specs.Bytes.{Bytes}
 use Rattle.kconf_entries.specs.declared.entries.Kind.{Kind}
 use Rattle.kconf_entries.specs.declared.entries.ConfigEntry.{ConfigEntry}
 use Rattle.kconf_tree.specs.declared.shape.Symbol.{Symbol}
@@ -25,7 +26,7 @@ with_entry_at ss None e = ss
 with_entry_at ss (Some k) e = slice_set ss k (with_entry (slice_index_or ss k no_symbol) e)
 
 -- a symbol of a known type after some of its entries
-abbrev pub symbol_by : Kind → List ConfigEntry → List ℕ → Symbol
+abbrev pub symbol_by : Kind → List ConfigEntry → Bytes → Symbol
 symbol_by k es name = record (symbol_of es name) { kind = k; member_of = member_choice k (first_choice es) }
 
 -- all symbols after some of the entries

@@ -8,8 +8,8 @@ pub mod Right
 pub mod References
 pub mod Orders
 pub mod Limits
-pub mod Arranged
-pub mod Made
+pub mod OrderedTree
+pub mod WellMade
 pub mod Undeclared
 pub mod Built
 pub mod Apart

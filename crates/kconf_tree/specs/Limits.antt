@@ -1,5 +1,5 @@
--- The limits of a tree: 65,536 symbols, 1,024 members of one choice, 1,024 defaults of one symbol, and
--- the first that is passed, in this order. This project's rule.
+-- The limits of a tree on symbols, members of one choice and defaults of one symbol, and the first that is
+-- passed, in this order. This project's rule.
 use Rattle.std.specs.Prelude.{ℕ, List, [], ◌∷◌, Option, None, Some, if◌then◌else◌, map, length, nat_lt}
 use Rattle.std.specs.Option.{option_or}
 use Rattle.ut_base.specs.declared.limits.Limit.{Limit}
@@ -8,6 +8,18 @@ use Rattle.kconf_tree.specs.declared.shape.Symbol.{Symbol}
 use Rattle.kconf_tree.specs.declared.shape.Choice.{Choice}
 use Rattle.kconf_tree.specs.declared.limits.Passed.{Passed}
 use Rattle.kconf_tree.specs.Shape.{Shape}
+
+-- the most symbols of a tree
+abbrev pub max_symbols : ℕ
+max_symbols = 65536
+
+-- the most members of one choice
+abbrev pub max_members : ℕ
+max_members = 1024
+
+-- the most defaults of one symbol
+abbrev pub max_defaults : ℕ
+max_defaults = 1024
 
 -- a count that passes the limit
 abbrev pub past : Limit → ℕ → ℕ → Option Passed
@@ -20,9 +32,9 @@ first_past what limit (n ∷ ns) = option_or (past what limit n) (first_past wha
 
 -- the members of each choice first, then the defaults of each symbol
 abbrev pub each_past : List Choice → List Symbol → Option Passed
-each_past cs ss = option_or (first_past Members 1024 (map (λ (c : Choice). length c.members) cs))
-    (first_past Defaults 1024 (map (λ (s : Symbol). length s.defaults) ss))
+each_past cs ss = option_or (first_past Members max_members (map (λ (c : Choice). length c.members) cs))
+    (first_past Defaults max_defaults (map (λ (s : Symbol). length s.defaults) ss))
 
 -- symbols first, then the others
 abbrev pub first_passed : Shape → Option Passed
-first_passed t = option_or (past Symbols 65536 (length t.symbols)) (each_past t.choices t.symbols)
+first_passed t = option_or (past Symbols max_symbols (length t.symbols)) (each_past t.choices t.symbols)

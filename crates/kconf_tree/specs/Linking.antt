@@ -1,4 +1,4 @@
--- How the selects and implies are led to their targets, one after another. No public contract cites this
+-- How the selects and implies are added to the rows of their targets, one after another. No public contract cites this
 -- module.
 use Rattle.std.specs.Prelude.{◌<◌, ℕ, List, [], ◌∷◌, ◌++◌, Option, None, Some, length, slice_index_or, slice_set, suc}
 use Rattle.kconf_entries.specs.declared.entries.SelectOf.{SelectOf}
@@ -22,7 +22,7 @@ linkers_of Implies t k = impliers_of t k
 abbrev pub linker_of : Shape → Link → Selector → Selecting
 linker_of t link s = selecting_in (list_of link (symbol_at t s.by)) s
 
--- it is there
+-- it exists
 abbrev pub IsLinker : Shape → Link → Selector → Type 0
 IsLinker t link s = (s.by < length t.symbols) × (s.nth < length (list_of link (symbol_at t s.by)))
 

@@ -12,7 +12,7 @@ use Rattle.kconf_tree.specs.Linking.{IsLinker, linker_of, linkers_of}
 abbrev pub AreRowsBelow : ℕ → List (List ℕ) → Type 0
 AreRowsBelow n rows = All (λ row. All (λ k. k < n) row) rows
 
--- all that the rows name is there
+-- all selects, or implies, that the rows name exist
 abbrev pub AreLinkers : Shape → Link → List (List Selector) → Type 0
 AreLinkers t link rows = All (λ row. All (IsLinker t link) row) rows
 

@@ -46,7 +46,7 @@ pub record IsOrder (t : Shape) (order : List Node) : Type 0 where
   pub orders : IsGraphOrder (graph_of t) numbers
   pub listed : order ≡ flat_map (λ k. with_members t (node_at t k)) numbers ++ empty_choices 0 t.choices
 
--- some order is there
+-- the tree has an order
 abbrev pub IsAccepted : Shape → Type 0
 IsAccepted t = HasOrder (graph_of t)
 
@@ -56,7 +56,7 @@ pub record IsFirstCycle (t : Shape) (cycle : List Node) : Type 0 where
   pub first : IsFirstGraphCycle (graph_of t) numbers
   pub listed : cycle ≡ map (node_at t) numbers
 
--- a tree without an order, and its cycle; want of memory says nothing
+-- a tree without an order, and its cycle; running out of memory says nothing
 abbrev pub IsRecursive : Shape → TreeBad → Type 0
 IsRecursive t (Recursive cycle) = (¬ IsAccepted t) × IsFirstCycle t cycle
 IsRecursive t (TooMany what count) = ⊥

@@ -1,4 +1,4 @@
--- What symbols and choices refer to, which tells recursive trees from others. A choice and its members
+-- What symbols and choices refer to; a tree is recursive if something refers to itself through others. A choice and its members
 -- are one node, and a symbol that is no member is one.
 -- Rule: Linux kconfig-language, "Menu dependencies" and "Menu attributes", name what depends on what;
 -- which of these references count is this project's rule.

@@ -2,7 +2,8 @@
 -- properties, and the outer conditions; and what names and numbers stand for in it.
 -- Rule: Linux kconfig-language, "Menu attributes" and "Menu structure"; the numbers are this project's rule.
 use Rattle.std.specs.Prelude.{ℕ, ◌==◌, ◌<◌, Bool, false, List, [], ◌∷◌, ◌++◌, Option, None, Some, if◌then◌else◌, position, get_or, length, suc, is_some}
-use Rattle.ut_logic.specs.Text.{text_eq}
+use Rattle.ut_text.specs.Bytes.{Bytes}
+use Rattle.ut_text.specs.Text.{text_eq}
 use Rattle.ut_logic.specs.declared.trit.Trit.TheVariants.{N}
 use Rattle.kconf_entries.specs.declared.entries.SelectOf.{SelectOf}
 use Rattle.kconf_entries.specs.declared.entries.Kind.{Kind}
@@ -19,14 +20,14 @@ use Rattle.kconf_tree.specs.declared.shape.Counts.TheVariants as counts
 pub record Shape : Type 0 where
   pub symbols : List Symbol
   pub choices : List Choice
-  pub outers : List (List ℕ)
+  pub outers : List Bytes
   pub modules : Option ℕ
 
--- behind the last symbol there is nothing
+-- the symbol that is read past the last one
 abbrev pub no_symbol : Symbol
 no_symbol = record { name = []; kind = kind.Untyped; member_of = None; places = []; prompts = []; defaults = []; selects = []; implies = [] }
 
--- likewise a choice
+-- the choice that is read past the last one
 abbrev pub no_choice : Choice
 no_choice = record { kind = kind.Bool; members = []; prompts = []; defaults = []; optional = false }
 
@@ -39,11 +40,11 @@ abbrev pub choice_at : Shape → ℕ → Choice
 choice_at t i = get_or t.choices i no_choice
 
 -- the number of a declared name
-abbrev pub number_of : Shape → List ℕ → Option ℕ
+abbrev pub number_of : Shape → Bytes → Option ℕ
 number_of t name = position (λ s. text_eq s.name name) t.symbols
 
 -- the number of an outer condition's text
-abbrev pub outer_at : Shape → List ℕ → Option ℕ
+abbrev pub outer_at : Shape → Bytes → Option ℕ
 outer_at t text = position (λ o. text_eq o text) t.outers
 
 -- the optional number is this one
@@ -81,7 +82,7 @@ pub record Selecting : Type 0 where
   pub by : ℕ
   pub cond : Expr
 
--- behind the last select there is nothing
+-- the select that is read past the last one
 abbrev pub no_select : SelectOf
 no_select = record { target = []; cond = Const N }
 
@@ -93,17 +94,17 @@ selecting_in ss s = record { by = s.by; cond = (get_or ss s.nth no_select).cond 
 abbrev pub selecting_of : Shape → Selector → Selecting
 selecting_of t s = selecting_in (symbol_at t s.by).selects s
 
--- there is such a select
+-- the select exists
 abbrev pub IsSelector : Shape → Selector → Type 0
 IsSelector t s = (s.by < length t.symbols) × (s.nth < length (symbol_at t s.by).selects)
 
 -- who selects a symbol, in order of declaration
-abbrev pub selects_at : List ℕ → ℕ → List SelectOf → List Selecting
+abbrev pub selects_at : Bytes → ℕ → List SelectOf → List Selecting
 selects_at name j [] = []
 selects_at name j (s ∷ ss) = if text_eq s.target name then record { by = j; cond = s.cond } ∷ selects_at name j ss else selects_at name j ss
 
 -- the selects of this name by the symbols from number j on
-abbrev pub selects_from : List ℕ → ℕ → List Symbol → List Selecting
+abbrev pub selects_from : Bytes → ℕ → List Symbol → List Selecting
 selects_from name j [] = []
 selects_from name j (s ∷ ss) = selects_at name j s.selects ++ selects_from name (suc j) ss
 
@@ -112,7 +113,7 @@ abbrev pub selectors_of : Shape → ℕ → List Selecting
 selectors_of t k = selects_from (symbol_at t k).name 0 t.symbols
 
 -- likewise who implies it
-abbrev pub implies_from : List ℕ → ℕ → List Symbol → List Selecting
+abbrev pub implies_from : Bytes → ℕ → List Symbol → List Selecting
 implies_from name j [] = []
 implies_from name j (s ∷ ss) = selects_at name j s.implies ++ implies_from name (suc j) ss
 

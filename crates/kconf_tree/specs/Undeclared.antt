@@ -4,7 +4,8 @@
 use Rattle.std.specs.Prelude.{◌↔◌, ℕ, List, [], ◌∷◌, ◌++◌, Contains, if◌then◌else◌, is_some}
 use Rattle.std.specs.List.{flat_map}
 use Rattle.std.specs.List.Sorted.{IsStrictlySortedBy}
-use Rattle.ut_logic.specs.Text.{text_cmp}
+use Rattle.ut_text.specs.Bytes.{Bytes}
+use Rattle.ut_text.specs.Text.{text_cmp}
 use Rattle.kconf_entries.specs.declared.expr.Side.{Side}
 use Rattle.kconf_entries.specs.declared.expr.Side.TheVariants as side
 use Rattle.kconf_entries.specs.declared.expr.Sign.{Sign}
@@ -19,20 +20,20 @@ use Rattle.kconf_tree.specs.Shape.{Shape, number_of}
 use Rattle.kconf_tree.specs.Value.{compares_trits}
 
 -- a name that no symbol has
-abbrev pub unless_declared : Shape → List ℕ → List (List ℕ)
+abbrev pub unless_declared : Shape → Bytes → List Bytes
 unless_declared t name = if is_some (number_of t name) then [] else name ∷ []
 
 -- that of a side
-abbrev pub side_undeclared : Shape → Side → List (List ℕ)
+abbrev pub side_undeclared : Shape → Side → List Bytes
 side_undeclared t (side.Name name) = unless_declared t name
 side_undeclared t s = []
 
 -- those of a comparison of two of the three values
-abbrev pub compared_undeclared : Shape → Side → Sign → Side → List (List ℕ)
+abbrev pub compared_undeclared : Shape → Side → Sign → Side → List Bytes
 compared_undeclared t left s right = if compares_trits t left s right then side_undeclared t left ++ side_undeclared t right else []
 
 -- by the parts of an expression
-abbrev pub undeclared_step : Shape → Expr-F (List (List ℕ)) → List (List ℕ)
+abbrev pub undeclared_step : Shape → Expr-F (List Bytes) → List Bytes
 undeclared_step t (Expr-F.Const x) = []
 undeclared_step t (Expr-F.Name name) = unless_declared t name
 undeclared_step t (Expr-F.Outer text) = []
@@ -42,31 +43,31 @@ undeclared_step t (Expr-F.And lists) = flat_map (λ names. names) lists
 undeclared_step t (Expr-F.Or lists) = flat_map (λ names. names) lists
 
 -- the undeclared names of an expression, in order
-abbrev pub undeclared_in : Shape → Expr → List (List ℕ)
-undeclared_in t = fold-Expr (List (List ℕ)) (undeclared_step t)
+abbrev pub undeclared_in : Shape → Expr → List Bytes
+undeclared_in t = fold-Expr (List Bytes) (undeclared_step t)
 
 -- of a default
-abbrev pub undeclared_of_default : Shape → DefaultOf → List (List ℕ)
+abbrev pub undeclared_of_default : Shape → DefaultOf → List Bytes
 undeclared_of_default t d = undeclared_in t d.value ++ undeclared_in t d.cond
 
 -- of selects, implies or choice defaults
-abbrev pub undeclared_of_conditions : Shape → List SelectOf → List (List ℕ)
+abbrev pub undeclared_of_conditions : Shape → List SelectOf → List Bytes
 undeclared_of_conditions t = flat_map (λ (s : SelectOf). undeclared_in t s.cond)
 
 -- of a symbol
-abbrev pub undeclared_of_symbol : Shape → Symbol → List (List ℕ)
+abbrev pub undeclared_of_symbol : Shape → Symbol → List Bytes
 undeclared_of_symbol t s = flat_map (undeclared_in t) s.places ++ flat_map (undeclared_in t) s.prompts ++ flat_map (undeclared_of_default t) s.defaults
     ++ undeclared_of_conditions t s.selects ++ undeclared_of_conditions t s.implies
 
 -- of a choice
-abbrev pub undeclared_of_choice : Shape → Choice → List (List ℕ)
+abbrev pub undeclared_of_choice : Shape → Choice → List Bytes
 undeclared_of_choice t c = flat_map (undeclared_in t) c.prompts ++ undeclared_of_conditions t c.defaults
 
 -- of the tree, each where it stands
-abbrev pub undeclared_of : Shape → List (List ℕ)
+abbrev pub undeclared_of : Shape → List Bytes
 undeclared_of t = flat_map (undeclared_of_symbol t) t.symbols ++ flat_map (undeclared_of_choice t) t.choices
 
 -- the list rises by bytes and has these names
-pub record AreUndeclared (t : Shape) (names : List (List ℕ)) : Type 0 where
+pub record AreUndeclared (t : Shape) (names : List Bytes) : Type 0 where
   pub rising : IsStrictlySortedBy text_cmp names
-  pub exact : (name : List ℕ) → Contains names name ↔ Contains (undeclared_of t) name
+  pub exact : (name : Bytes) → Contains names name ↔ Contains (undeclared_of t) name

@@ -4,6 +4,7 @@
 -- an undeclared name is n, are this project's rule.
 use Rattle.std.specs.Prelude.{◌≡◌, ℕ, ◌==◌, ◌<◌, ◌≤◌, Bool, true, false, not, ◌&&◌, ◌⊎◌, List, Option, None, Some, if◌then◌else◌, min, max, length, filter}
 use Rattle.std.specs.List.{list_any, list_all}
+use Rattle.ut_text.specs.Bytes.{Bytes}
 use Rattle.kconf_tree.specs.declared.shape.Counts.{Counts}
 use Rattle.kconf_tree.specs.declared.shape.Counts.TheVariants as counts
 use Rattle.kconf_tree.specs.Shape.{Shape, choice_at, counts_as, is_member}
@@ -66,7 +67,7 @@ can_be_y t c j = not (visibility_of t c j == 0)
 abbrev pub allows_mode : Bool → ℕ → ℕ → Bool
 allows_mode optional vis mode = if mode == 2 then not (vis == 0) else ((mode == 0) && (if vis == 0 then true else optional))
 
--- mode n: all members are n. Mode y: of those that can be y exactly one is, if there is any; all others are n
+-- mode n: all members are n. Mode y: of the members that can be y exactly one is, if any can; all others are n
 abbrev pub keeps_mode : Shape → Configuration → ℕ → List ℕ → Bool
 keeps_mode t c mode members = list_all (λ j. if is_y c j then can_be_y t c j else is_n c j) members
     && (length (filter (is_y c) members) == (if (mode == 2) && list_any (can_be_y t c) members then 1 else 0))
@@ -87,4 +88,4 @@ pub record KeepsRules (t : Shape) (c : Configuration) : Type 0 where
 -- a valid configuration keeps the rules, and each undeclared name is n
 pub record IsValid (t : Shape) (c : Configuration) : Type 0 where
   pub rules : KeepsRules t c
-  pub undeclared_are_n : (name : List ℕ) → c.undeclared name ≡ false
+  pub undeclared_are_n : (name : Bytes) → c.undeclared name ≡ false

@@ -1,7 +1,8 @@
 -- Configurations, and the value of an expression under one, where n is 0, m is 1 and y is 2.
 -- Rule: Linux kconfig-language, "Menu dependencies". That comparisons of other types are free
 -- conditions, and that undeclared names may be read as y, is this project's rule.
-use Rattle.std.specs.Prelude.{ℕ, ◌-◌, ◌==◌, Bool, true, false, not, ◌&&◌, List, [], ◌∷◌, ◌++◌, Option, None, Some, if◌then◌else◌, min, max, codes}
+use Rattle.std.specs.Prelude.{ℕ, ◌-◌, ◌==◌, Bool, true, false, not, ◌&&◌, List, [], ◌∷◌, Option, None, Some, if◌then◌else◌, min, max}
+use Rattle.ut_text.specs.Bytes.{Bytes}
 use Rattle.ut_logic.specs.Trit.{rank}
 use Rattle.ut_logic.specs.declared.trit.Trit.{Trit}
 use Rattle.ut_logic.specs.declared.trit.Trit.TheVariants.{N, M, Y}
@@ -12,6 +13,7 @@ use Rattle.kconf_entries.specs.declared.expr.Sign.TheVariants as sign
 use Rattle.kconf_entries.specs.declared.expr.Expr.{Expr}
 use Rattle.kconf_entries.specs.declared.expr.Expr.TheOpen.{Expr-F}
 use Rattle.kconf_entries.specs.declared.expr.Expr.TheFolds.{fold-Expr}
+use Rattle.kconf_entries.specs.Written.{comparison_text}
 use Rattle.kconf_entries.specs.declared.entries.Kind.{Kind}
 use Rattle.kconf_entries.specs.declared.entries.Kind.TheVariants as kind
 use Rattle.kconf_tree.specs.declared.shape.Counts.{Counts}
@@ -22,12 +24,12 @@ pub use Rattle.kconf_tree.specs.declared.place.Place.TheVariants.{Condition, Val
 use Rattle.kconf_tree.specs.Shape.{Shape, symbol_at, counts_as, number_of, outer_at}
 
 -- one value for each symbol, one mode for each choice, one truth for each outer condition; and of
--- each undeclared name whether it is read as y. What stands behind the counts is never looked at.
+-- each undeclared name whether it is read as y. What lies past the counts is never used.
 pub record Configuration : Type 0 where
   pub value : ℕ → ℕ
   pub mode : ℕ → ℕ
   pub outer : ℕ → Bool
-  pub undeclared : List ℕ → Bool
+  pub undeclared : Bytes → Bool
 
 -- the minimum of values, y of none
 abbrev pub least : List ℕ → ℕ
@@ -57,12 +59,12 @@ abbrev pub own_value : Shape → Configuration → ℕ → ℕ
 own_value t c k = stands_for (counts_as t k) (c.value k)
 
 -- an undeclared name is n, or y where the configuration reads it so
-abbrev pub named : Shape → Configuration → List ℕ → Option ℕ → ℕ
+abbrev pub named : Shape → Configuration → Bytes → Option ℕ → ℕ
 named t c name None = if c.undeclared name then 2 else 0
 named t c name (Some k) = own_value t c k
 
 -- the value that a name stands for
-abbrev pub name_value : Shape → Configuration → List ℕ → ℕ
+abbrev pub name_value : Shape → Configuration → Bytes → ℕ
 name_value t c name = named t c name (number_of t name)
 
 -- ---- comparisons
@@ -102,32 +104,6 @@ abbrev pub compared : Sign → ℕ → ℕ → ℕ
 compared sign.Same a b = if a == b then 2 else 0
 compared s a b = if a == b then 0 else 2
 
--- a comparison as an outer condition is written with quotes round its quoted words
-abbrev pub trit_text : Trit → List ℕ
-trit_text N = codes "n"
-trit_text M = codes "m"
-trit_text Y = codes "y"
-
--- a side as it is written
-abbrev pub side_text : Side → List ℕ
-side_text (side.Const x) = trit_text x
-side_text (side.Name name) = name
-side_text (side.Literal text) = text
-side_text (side.Quoted text) = codes "\"" ++ text ++ codes "\""
-
--- the sign as it is written
-abbrev pub sign_text : Sign → List ℕ
-sign_text sign.Same = codes "="
-sign_text sign.Differ = codes "!="
-sign_text sign.Less = codes "<"
-sign_text sign.More = codes ">"
-sign_text sign.LessSame = codes "<="
-sign_text sign.MoreSame = codes ">="
-
--- both sides and the sign, with one space between
-abbrev pub comparison_text : Side → Sign → Side → List ℕ
-comparison_text left s right = side_text left ++ codes " " ++ sign_text s ++ codes " " ++ side_text right
-
 -- whether a comparison compares two of the three values; every other is an outer condition
 abbrev pub compares_trits : Shape → Side → Sign → Side → Bool
 compares_trits t left s right = is_equation s && (has_trit t left && has_trit t right)
@@ -135,7 +111,7 @@ compares_trits t left s right = is_equation s && (has_trit t left && has_trit t 
 -- ---- the value of an expression
 
 -- y where the outer condition with this text is true, else n
-abbrev pub outer_value : Shape → Configuration → List ℕ → ℕ
+abbrev pub outer_value : Shape → Configuration → Bytes → ℕ
 outer_value t c text = truth_of (outer_at t text)
   where
     truth_of : Option ℕ → ℕ

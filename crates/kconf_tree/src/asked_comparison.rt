@@ -1,17 +1,16 @@
 ghost use Rattle.std.specs.Prelude.{◌≡◌, ◌≢◌, ◌++◌, MatchOption, List, ℕ, fold};
 ghost use Rattle.std.specs.Cmp.Rules.{comparing};
 ghost use Rattle.std.proofs.Common.{ap, rules};
-ghost use Rattle.ut_logic.specs.Text.{text_eq, text_eq-exact, text_equiv};
-ghost use Rattle.kconf_tree.specs.Value as spec;
+ghost use Rattle.ut_text.specs.Text.{text_eq, text_eq-exact, text_equiv};
+ghost use Rattle.kconf_entries.specs.Written.{comparison_text, side_text};
 ghost use Rattle.kconf_tree.specs.Feeding.{byte_writes, spelled_eq, spelled_text, asked_eq, asked_text, same_asked};
 
 use crate::outer_text::{OuterText, feed};
-use crate::outers::{sign_text, trit_text};
 use indexmap::Equivalent;
-use kconf_entries::{Side, Sign};
+use kconf_entries::{Side, Sign, sign_text, trit_text};
 use std::hash::{Hash, Hasher};
 
-/// A side of a comparison: a word, and what stands before and behind it.
+/// A side of a comparison: a word, and the quote before and after it.
 #[derive(Clone, Copy)]
 pub struct Spelled<'a> {
     quote: &'static str,
@@ -26,7 +25,7 @@ pub struct AskedComparison<'a> {
     right: Spelled<'a>,
 }
 
-/// What stands behind a word at the start.
+/// The rest of the text after a word at its start.
 fn after<'a>(text: &'a [u8], word: &[u8]) -> Option<&'a [u8]>
     ensures { MatchOption result ((rest : List ℕ) → text.now ≢ word.now ++ rest) (λ rest. text.now ≡ word.now ++ rest.now) }
 {
@@ -36,7 +35,7 @@ fn after<'a>(text: &'a [u8], word: &[u8]) -> Option<&'a [u8]>
 impl<'a> Spelled<'a> {
     /// A side as it is written.
     fn of(side: &'a Side) -> Spelled<'a>
-        ensures { spelled_text result ≡ spec.side_text side.now }
+        ensures { spelled_text result ≡ side_text side.now }
     {
         match side {
             Side::Const(trit) => Spelled {
@@ -74,7 +73,7 @@ impl<'a> Spelled<'a> {
         feed(state, self.quote.as_bytes());
     }
 
-    /// What stands behind it at the start.
+    /// The rest of the text after this at its start.
     fn after<'b>(&self, text: &'b [u8]) -> Option<&'b [u8]>
         ensures { MatchOption result ((rest : List ℕ) → text.now ≢ spelled_text self.now ++ rest) (λ rest. text.now ≡ spelled_text self.now ++ rest.now) }
     {
@@ -87,7 +86,7 @@ impl<'a> Spelled<'a> {
 impl<'a> AskedComparison<'a> {
     /// A comparison in its pieces.
     pub fn of(left: &'a Side, sign: Sign, right: &'a Side) -> AskedComparison<'a>
-        ensures { asked_text result ≡ spec.comparison_text left.now sign right.now }
+        ensures { asked_text result ≡ comparison_text left.now sign right.now }
     {
         AskedComparison {
             left: Spelled::of(left),
@@ -96,7 +95,7 @@ impl<'a> AskedComparison<'a> {
         }
     }
 
-    /// What stands behind it at the start.
+    /// The rest of the text after this at its start.
     fn after<'b>(&self, text: &'b [u8]) -> Option<&'b [u8]>
         ensures { MatchOption result ((rest : List ℕ) → text.now ≢ asked_text self.now ++ rest) (λ rest. text.now ≡ asked_text self.now ++ rest.now) }
     {

@@ -15,7 +15,7 @@ pub enum TreeBad {
     /// refers to. `cycle` begins and ends with the first node on a cycle, and each refers to the next.
     #[error("recursive")]
     Recursive { cycle: Sequence<Node> },
-    /// There is not enough memory.
+    /// Out of memory.
     #[error("memory")]
     Oom,
 }

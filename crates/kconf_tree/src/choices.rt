@@ -31,7 +31,7 @@ fn has_type_line(types: &Types, config: &ConfigEntry) -> bool
     }
 }
 
-/// Gives the choice that the entry stands in the entry's type, where it has none yet.
+/// Sets the type of the entry's choice to the entry's, where the choice has none yet.
 fn type_by(kinds: &mut Vec<Kind>, types: &Types, config: &ConfigEntry)
     requires { IfSome config.now.choice (λ i. i < length kinds.old.items) }
     ensures { kinds.new.items ≡ choosing.typed_by types.now kinds.old.items config.now }
@@ -44,8 +44,8 @@ fn type_by(kinds: &mut Vec<Kind>, types: &Types, config: &ConfigEntry)
     }
 }
 
-/// The types of the choices: each its own, else that of the first type line in it; untyped where there
-/// is neither.
+/// The types of the choices: each its own, else that of the first type line in it; untyped where it has
+/// neither.
 pub fn typed_kinds(
     alloc: Global,
     types: &Types,
@@ -133,7 +133,7 @@ fn add_members(choices: &mut Vec<Choice>, symbols: &[Symbol]) -> Result<(), Allo
     Ok(())
 }
 
-/// The choices with these types and the members among the symbols. The only error is want of memory.
+/// The choices with these types and the members among the symbols. The only error is out of memory.
 pub fn choices_with(
     alloc: Global,
     kinds: &[Kind],

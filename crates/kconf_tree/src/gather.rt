@@ -10,7 +10,7 @@ use kconf_entries::{ConfigEntry, Kind};
 use sqlite_items::Items;
 use std::alloc::{AllocError, Global};
 
-/// The choice that a symbol of this kind is a member of, where one of its entries stands in it.
+/// The choice that a symbol of this kind is a member of, where an entry of the symbol stands in that choice.
 fn member_choice(kind: Kind, choice: Option<u32>) -> Option<u32>
     ensures { result ≡ spec.member_choice kind choice }
 {
@@ -21,7 +21,7 @@ fn member_choice(kind: Kind, choice: Option<u32>) -> Option<u32>
     }
 }
 
-/// Moves items to the end of a list; where that is empty, it becomes them as they stand.
+/// Moves items to the end of a list. An empty list takes them without copying.
 fn join<T: Drop>(list: &mut Items<T>, more: Items<T>) -> Result<(), AllocError>
     ensures { OnOk result (list.new ≡ list.old ++ more) }
 {
@@ -80,7 +80,7 @@ fn add(types: &Types, symbols: &mut Vec<Symbol>, config: ConfigEntry) -> Result<
     Ok(())
 }
 
-/// The symbols of the entries, with their properties moved into them. The only error is want of memory.
+/// The symbols of the entries, with their properties moved into them. The only error is out of memory.
 pub fn symbols(
     alloc: Global,
     types: &Types,

@@ -4,7 +4,7 @@ ghost use Rattle.kconf_tree.specs.Built.{HaveChoices};
 
 use kconf_entries::{ConfigEntry, Entries};
 
-/// Whether the choice that a config stands in, if it stands in one, is among so many.
+/// Whether the choice of a config, if it has one, is below the number of choices.
 fn has_choice(config: &ConfigEntry, count: usize) -> bool
     ensures { IsTrue result ↔ IfSome config.now.choice (λ i. i < count) }
 {
@@ -14,7 +14,7 @@ fn has_choice(config: &ConfigEntry, count: usize) -> bool
     }
 }
 
-/// Whether each choice that a config stands in is there, and a u32 has room for their numbers. `Tree::build` asks for
+/// Whether each choice that a config names exists, and the numbers of choices fit a u32. `Tree::build` asks for
 /// this.
 pub fn have_choices(entries: &Entries) -> bool
     ensures { IsTrue result ↔ HaveChoices entries.now }

@@ -7,19 +7,22 @@ use crate::shape::{Choice, Symbol};
 use ut_base::Limit;
 
 /// The most symbols of a tree.
-pub const SYMBOLS: usize = 65_536;
+const MAX_SYMBOLS: usize = 65_536;
 
-/// The most members of one choice, and the most defaults of one symbol.
-const EACH: usize = 1_024;
+/// The most members of one choice.
+const MAX_MEMBERS: usize = 1_024;
 
-/// A limit that is passed, with the whole count.
+/// The most defaults of one symbol.
+const MAX_DEFAULTS: usize = 1_024;
+
+/// A limit that is passed, and the whole count.
 #[derive(Clone, Copy, Debug)]
 pub struct Passed {
     pub what: Limit,
     pub count: u64,
 }
 
-/// A count that passes the limit.
+/// The count, where it passes the limit.
 fn past(what: Limit, limit: usize, count: usize) -> Option<Passed>
     ensures { result ≡ spec.past what limit count }
 {
@@ -35,17 +38,17 @@ fn past(what: Limit, limit: usize, count: usize) -> Option<Passed>
 
 /// The number of symbols, where it passes its limit.
 pub fn past_symbols(count: usize) -> Option<Passed>
-    ensures { result ≡ spec.past Limit.Symbols 65536 count }
+    ensures { result ≡ spec.past Limit.Symbols spec.max_symbols count }
 {
-    past(Limit::Symbols, SYMBOLS, count)
+    past(Limit::Symbols, MAX_SYMBOLS, count)
 }
 
 /// The members of the first choice that has too many.
 fn past_members(choices: &[Choice]) -> Option<Passed>
-    ensures { result ≡ spec.first_past Limit.Members 1024 (map (λ (c : one_choice.Choice). length c.members) choices.now) }
+    ensures { result ≡ spec.first_past Limit.Members spec.max_members (map (λ (c : one_choice.Choice). length c.members) choices.now) }
 {
     for choice in choices {
-        if let Some(passed) = past(Limit::Members, EACH, choice.members.len()) {
+        if let Some(passed) = past(Limit::Members, MAX_MEMBERS, choice.members.len()) {
             return Some(passed);
         }
     }
@@ -54,10 +57,10 @@ fn past_members(choices: &[Choice]) -> Option<Passed>
 
 /// The defaults of the first symbol that has too many.
 fn past_defaults(symbols: &[Symbol]) -> Option<Passed>
-    ensures { result ≡ spec.first_past Limit.Defaults 1024 (map (λ (s : one_symbol.Symbol). length s.defaults) symbols.now) }
+    ensures { result ≡ spec.first_past Limit.Defaults spec.max_defaults (map (λ (s : one_symbol.Symbol). length s.defaults) symbols.now) }
 {
     for symbol in symbols {
-        if let Some(passed) = past(Limit::Defaults, EACH, symbol.defaults.len()) {
+        if let Some(passed) = past(Limit::Defaults, MAX_DEFAULTS, symbol.defaults.len()) {
             return Some(passed);
         }
     }

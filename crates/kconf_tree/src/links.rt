@@ -1,6 +1,6 @@
 ghost use Rattle.std.specs.Prelude.{◌≡◌, ◌<◌, [], length, IfOk, OnOk, replicate, slice_index_or};
 ghost use Rattle.kconf_tree.specs.Shape.{number_of, symbol_at};
-ghost use Rattle.ut_logic.specs.Text.{text_eq};
+ghost use Rattle.ut_text.specs.Text.{text_eq};
 ghost use Rattle.kconf_tree.specs.Apart.{AreApart};
 ghost use Rattle.kconf_tree.specs.Apart.{names_in};
 ghost use Rattle.kconf_tree.specs.Linking.{IsLinker, linked_each, linked_all, linker_of, list_of, with_one};
@@ -20,7 +20,7 @@ pub enum Link {
     Implies,
 }
 
-/// So many empty lists.
+/// `count` empty rows.
 fn empty_rows(alloc: Global, count: u32) -> Result<Vec<Items<Selector>>, AllocError>
     ensures { IfOk result (λ rows. rows.items ≡ replicate count []) }
 {
@@ -45,8 +45,8 @@ impl Parts {
         ensures { result.now ≡ list_of link (symbol_at self.now sym) }
     {
         match link {
-            Link::Selects => self.selects(sym),
-            Link::Implies => self.implies(sym),
+            Link::Selects => self.symbol_at(sym).selects.as_slice(),
+            Link::Implies => self.symbol_at(sym).implies.as_slice(),
         }
     }
 
@@ -112,7 +112,7 @@ impl Parts {
         Ok(rows)
     }
 
-    /// The selects and implies of all symbols, as their targets see them. The only error is want of memory.
+    /// The selects and implies of all symbols, as their targets see them. The only error is out of memory.
     pub(crate) fn links(&self, alloc: Global) -> Result<Links, AllocError>
         requires { AreApart text_eq (names_in self.now.symbols) }
         ensures { IfOk result (AreLinks self.now) }

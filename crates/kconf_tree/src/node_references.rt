@@ -33,9 +33,9 @@ fn counts_in(choice: Counts, kind: Kind) -> Counts
     match choice {
         Counts::Tristate => match kind {
             Kind::Bool => Counts::Bool,
-            _ => Counts::Tristate,
+            Kind::Tristate | Kind::Str | Kind::Hex | Kind::Int | Kind::Untyped => Counts::Tristate,
         },
-        _ => Counts::Bool,
+        Counts::Bool | Counts::Neither => Counts::Bool,
     }
 }
 
@@ -55,9 +55,10 @@ impl Parts {
         requires { sym < length self.now.symbols }
         ensures { result ≡ shape.counts_with self.now (shape.symbol_at self.now sym).kind (shape.symbol_at self.now sym).member_of }
     {
-        match self.member_of(sym) {
-            None => counts_alone(self.kind(sym)),
-            Some(choice) => counts_in(counts_alone(self.choice_kind(choice)), self.kind(sym)),
+        let symbol = self.symbol_at(sym);
+        match symbol.member_of {
+            None => counts_alone(symbol.kind),
+            Some(choice) => counts_in(counts_alone(self.choice_at(choice).kind), symbol.kind),
         }
     }
 
@@ -99,8 +100,9 @@ impl Parts {
         ensures row { OnOk result (row.new ≡ row.old ++ spec.own_references self.now sym) }
         ensures within { OnOk result (All (λ k. k < length self.now.symbols) row.new) }
     {
-        self.mention_each(Place::Condition, self.prompts(sym), row)?;
-        self.mention_defaults(self.defaults(sym), row)?;
+        let symbol = self.symbol_at(sym);
+        self.mention_each(Place::Condition, symbol.prompts.as_slice(), row)?;
+        self.mention_defaults(symbol.defaults.as_slice(), row)?;
         self.mention_places(sym, links, row)?;
         self.mention_type(self.counts_as(sym), row)
     }
@@ -121,10 +123,10 @@ impl Parts {
         if links.implies[sym as usize].is_empty() {
             return Ok(());
         }
-        self.mention_each(Place::Condition, self.places(sym), row)
+        self.mention_each(Place::Condition, self.symbol_at(sym).places.as_slice(), row)
     }
 
-    /// Adds what selects or implies bring in: the symbols that have them, and their conditions'.
+    /// Adds the symbols that have these selects or implies, and those that their conditions ask for.
     fn mention_selectors(
         &self,
         link: Link,
@@ -161,7 +163,7 @@ impl Parts {
         self.mention_selectors(Link::Implies, links.implies[sym as usize].as_slice(), row)
     }
 
-    /// Adds what a choice default picks, where that is no member of the choice.
+    /// Adds the symbol that a choice default picks, unless it is a member of the choice.
     fn mention_picked(
         &self,
         choice: u32,
@@ -175,7 +177,7 @@ impl Parts {
         match self.symbol(name.text()) {
             None => Ok(()),
             Some(sym) => {
-                if is_the(self.member_of(sym), choice) {
+                if is_the(self.symbol_at(sym).member_of, choice) {
                     Ok(())
                 } else {
                     row.push(sym)
@@ -234,9 +236,10 @@ impl Parts {
         ensures row { OnOk result (row.new ≡ row.old ++ spec.choice_references self.now choice) }
         ensures within { OnOk result (All (λ k. k < length self.now.symbols) row.new) }
     {
-        self.mention_each(Place::Condition, self.choice_prompts(choice), row)?;
-        self.mention_choice_defaults(choice, self.choice_defaults(choice), row)?;
-        self.mention_type(counts_alone(self.choice_kind(choice)), row)?;
-        self.mention_members(self.members(choice), links, row)
+        let choice_of = self.choice_at(choice);
+        self.mention_each(Place::Condition, choice_of.prompts.as_slice(), row)?;
+        self.mention_choice_defaults(choice, choice_of.defaults.as_slice(), row)?;
+        self.mention_type(counts_alone(choice_of.kind), row)?;
+        self.mention_members(choice_of.members.as_slice(), links, row)
     }
 }

@@ -20,7 +20,7 @@ pub struct NodeLists {
     pub lists: Vec<Items<u32>>,
 }
 
-/// The order number of a node.
+/// The place of a node among the nodes; for any other node, the number of nodes.
 pub fn place(nodes: &IndexSet<Node>, node: Node) -> usize
     ensures place { result ≡ place_among nodes.now.keys node }
     ensures within { result ≤ length nodes.now.keys }
@@ -37,7 +37,7 @@ impl Parts {
         requires { sym < length self.now.symbols }
         ensures { result ≡ spec.node_of self.now sym }
     {
-        match self.member_of(sym) {
+        match self.symbol_at(sym).member_of {
             None => Node::Sym(sym),
             Some(choice) => Node::Choice(choice),
         }
@@ -51,7 +51,7 @@ impl Parts {
         ensures within { IfOk result (λ row. All (λ k. k < length self.now.symbols) row) }
     {
         let mut row = Items::new(alloc);
-        match self.member_of(sym) {
+        match self.symbol_at(sym).member_of {
             None => self.mention_symbol(sym, links, &mut row)?,
             Some(choice) => self.mention_choice(choice, links, &mut row)?,
         }
@@ -80,7 +80,7 @@ impl Parts {
         Ok(())
     }
 
-    /// The nodes in order with their lists. The only error is want of memory.
+    /// The nodes in order with their lists. The only error is out of memory.
     pub(crate) fn node_lists(&self, alloc: Global, links: &Links) -> Result<NodeLists, AllocError>
         requires { AreLinks self.now links.now }
         ensures nodes { IfOk result (λ f. f.nodes.keys ≡ nodes_of self.now) }

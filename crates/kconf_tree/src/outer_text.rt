@@ -1,7 +1,7 @@
 ghost use Rattle.std.specs.Prelude.{◌≡◌, fold};
 ghost use Rattle.std.specs.Cmp.{partial_equiv_from_equiv};
 ghost use Rattle.std.proofs.Common.{ap};
-ghost use Rattle.ut_logic.specs.Text.{text_eq, text_eq-exact, text_equiv};
+ghost use Rattle.ut_text.specs.Text.{text_eq, text_eq-exact, text_equiv};
 ghost use Rattle.kconf_tree.specs.Feeding.{byte_writes};
 
 use indexmap::Equivalent;
@@ -9,8 +9,8 @@ use std::hash::{Hash, Hasher};
 use std::marker::Model;
 use ut_logic::Text;
 
-/// The text of an outer condition, which feeds a hash byte by byte: so a comparison that is not written
-/// out can feed it alike.
+/// The text of an outer condition, hashed byte by byte, so that a comparison that is not written out hashes
+/// the same.
 #[derive(Drop)]
 pub struct OuterText {
     text: Text,

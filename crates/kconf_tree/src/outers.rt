@@ -1,7 +1,5 @@
 ghost use Rattle.std.specs.Prelude.{◌≡◌, ◌++◌, IfOk, OnOk};
 ghost use Rattle.std.specs.List.{flat_map};
-ghost use Rattle.std.specs.String.{string_bytes};
-ghost use Rattle.kconf_tree.specs.Value as value;
 ghost use Rattle.kconf_tree.specs.Gathered as spec;
 ghost use Rattle.kconf_tree.specs.Types.{typed, outers_of_default, outers_with};
 ghost use Rattle.kconf_entries.specs.declared.entries.SelectOf as declared;
@@ -10,63 +8,11 @@ ghost use Rattle.kconf_entries.specs.declared.expr.Expr.TheOpen.{Expr-F as step}
 use crate::outer_text::OuterText;
 use crate::types::Types;
 use indexmap::IndexSet;
-use kconf_entries::{ChoiceEntry, ConfigEntry, DefaultOf, Expr, SelectOf, Side, Sign};
+use kconf_entries::{
+    ChoiceEntry, ConfigEntry, DefaultOf, Expr, SelectOf, Side, Sign, comparison_text,
+};
 use std::alloc::{AllocError, Global};
-use ut_logic::{Text, Trit};
-
-/// A sign as it is written.
-pub fn sign_text(sign: Sign) -> &'static str
-    ensures { result.now ≡ value.sign_text sign }
-{
-    match sign {
-        Sign::Same => "=",
-        Sign::Differ => "!=",
-        Sign::Less => "<",
-        Sign::More => ">",
-        Sign::LessSame => "<=",
-        Sign::MoreSame => ">=",
-    }
-}
-
-/// A constant as it is written.
-pub fn trit_text(trit: Trit) -> &'static str
-    ensures { result.now ≡ value.trit_text trit }
-{
-    match trit {
-        Trit::N => "n",
-        Trit::M => "m",
-        Trit::Y => "y",
-    }
-}
-
-/// Writes a side as it stands in an outer condition.
-fn push_side(text: &mut String, side: &Side) -> Result<(), AllocError>
-    ensures { OnOk result (string_bytes text.new ≡ string_bytes text.old ++ value.side_text side.now) }
-{
-    match side {
-        Side::Const(trit) => text.push_str(trit_text(*trit)),
-        Side::Name(name) => text.push_str(name.text()),
-        Side::Literal(literal) => text.push_str(literal.text()),
-        Side::Quoted(quoted) => {
-            text.push_str("\"")?;
-            text.push_str(quoted.text())?;
-            text.push_str("\"")
-        }
-    }
-}
-
-/// The text of a comparison that is an outer condition.
-fn comparison_text(alloc: Global, left: &Side, sign: Sign, right: &Side) -> Result<Text, AllocError>
-    ensures { IfOk result (λ t. t ≡ value.comparison_text left.now sign right.now) }
-{
-    let mut text = String::new(alloc);
-    push_side(&mut text, left)?;
-    text.push_str(" ")?;
-    text.push_str(sign_text(sign))?;
-    text.push_str(" ")?;
-    push_side(&mut text, right)?;
-    Text::new(alloc, text.as_str())
-}
+use ut_logic::Text;
 
 /// Adds the text of the comparison where it is an outer condition.
 fn push_comparison(
@@ -228,7 +174,7 @@ fn distinct(alloc: Global, texts: Vec<Text>) -> Result<IndexSet<OuterText>, Allo
     Ok(set)
 }
 
-/// The outer conditions in the entries, by first appearance. The only error is want of memory.
+/// The outer conditions in the entries, by first appearance. The only error is out of memory.
 pub fn outers(
     alloc: Global,
     types: &Types,

@@ -1,4 +1,5 @@
 ghost use Rattle.std.specs.Prelude.{◌≡◌, ◌<◌, ◌≤◌, ◌^◌, length, map, All, IfOk};
+ghost use Rattle.kconf_tree.specs.Limits.{max_symbols};
 ghost use Rattle.kconf_tree.specs.Links.{AreRowsBelow};
 ghost use Rattle.kconf_tree.specs.Numbering.{each_at, lists_of, symbol_places};
 ghost use Rattle.kconf_tree.specs.Orders.{nodes_of, graph_of};
@@ -48,12 +49,12 @@ impl Parts {
         Ok(places)
     }
 
-    /// The graph of the nodes. The only error is want of memory.
+    /// The graph of the nodes. The only error is out of memory.
     pub(crate) fn graph(&self, alloc: Global, found: &NodeLists) -> Result<Graph, AllocError>
         requires nodes { found.now.nodes.keys ≡ nodes_of self.now }
         requires lists { found.now.lists.items ≡ lists_of self.now (nodes_of self.now) }
         requires within { AreRowsBelow (length self.now.symbols) found.now.lists.items }
-        requires few { length self.now.symbols ≤ 65536 }
+        requires few { length self.now.symbols ≤ max_symbols }
         ensures { IfOk result (λ graph. graph ≡ graph_of self.now) }
     {
         let places = self.symbol_places(alloc, &found.nodes)?;

@@ -12,7 +12,7 @@ use sqlite_items::Items;
 use std::alloc::AllocError;
 use ut_logic::{Text, Trit};
 
-/// Adds a number, if there is one.
+/// Adds the number, if any.
 pub fn push(row: &mut Items<u32>, number: Option<u32>) -> Result<(), AllocError>
     ensures { OnOk result (row.new ≡ row.old ++ listed number) }
 {
@@ -31,7 +31,7 @@ impl Parts {
             Side::Const(_) => true,
             Side::Name(name) => match self.symbol(name.text()) {
                 None => true,
-                Some(sym) => !is_text_or_number(self.kind(sym)),
+                Some(sym) => !is_text_or_number(self.symbol_at(sym).kind),
             },
             Side::Literal(_) | Side::Quoted(_) => false,
         }

@@ -1,8 +1,9 @@
 ghost use Rattle.std.specs.Prelude.{◌≡◌, ◌<◌, ◌≤◌, length, slice_index_or, All, IfSome, []};
-ghost use Rattle.ut_logic.specs.Text.{text_eq};
+ghost use Rattle.ut_text.specs.Text.{text_eq};
 ghost use Rattle.kconf_tree.specs.Shape as spec;
 ghost use Rattle.kconf_tree.specs.Apart.{AreApart, names_in};
-ghost use Rattle.kconf_tree.specs.Made.{IsArranged};
+ghost use Rattle.kconf_tree.specs.WellMade.{IsOrderedTree};
+ghost use Rattle.kconf_tree.specs.Limits.{max_symbols};
 
 mod building;
 mod looking_up;
@@ -11,7 +12,8 @@ mod undeclared;
 
 use crate::links::Links;
 use crate::parts::Parts;
-use kconf_entries::{DefaultOf, Expr, Kind, SelectOf};
+use crate::shape::{Choice, Symbol};
+use kconf_entries::{Kind, SelectOf};
 use std::marker::Model;
 use ut_logic::Node;
 
@@ -25,39 +27,39 @@ pub struct Tree {
 }
 
 impl Model for Tree {
-    ghost use Rattle.kconf_tree.specs.Arranged.{Arranged};
+    ghost use Rattle.kconf_tree.specs.OrderedTree.{OrderedTree};
     ghost use Rattle.kconf_entries.specs.contracts.expr.Expr as e;
     ghost use Rattle.std.specs.Coded.{codes};
 
-    ghost Value = { Arranged };
+    ghost Value = { OrderedTree };
 
     ghost coded = { Prim.hlevel (codes, e.the_row.coded) };
 
-    ghost use Rattle.kconf_tree.specs.TreeInside.{arranged_of, IsWhole};
+    ghost use Rattle.kconf_tree.specs.TreeInside.{ordered_tree_of, IsWhole};
 
-    ghost view = { arranged_of };
+    ghost view = { ordered_tree_of };
 
     ghost invariant = { IsWhole };
 }
 
 impl Tree {
-    /// How many symbols there are.
+    /// The number of symbols.
     pub fn symbols(&self) -> u32
         ensures count { result ≡ length self.now.shape.symbols }
-        ensures few { length self.now.shape.symbols ≤ 65536 }
+        ensures few { length self.now.shape.symbols ≤ max_symbols }
         ensures apart { AreApart text_eq (names_in self.now.shape.symbols) }
     {
         self.parts.symbols()
     }
 
-    /// How many choices there are.
+    /// The number of choices.
     pub fn choices(&self) -> u32
         ensures { result ≡ length self.now.shape.choices }
     {
         self.parts.choices()
     }
 
-    /// How many outer conditions there are.
+    /// The number of outer conditions.
     pub fn outers(&self) -> u64
         ensures { result ≡ length self.now.shape.outers }
     {
@@ -69,7 +71,7 @@ impl Tree {
         requires { sym < length self.now.shape.symbols }
         ensures { result.now ≡ (spec.symbol_at self.now.shape sym).name }
     {
-        self.parts.name(sym)
+        self.parts.symbol_at(sym).name.text()
     }
 
     /// The first type of a symbol.
@@ -77,16 +79,16 @@ impl Tree {
         requires { sym < length self.now.shape.symbols }
         ensures { result ≡ (spec.symbol_at self.now.shape sym).kind }
     {
-        self.parts.kind(sym)
+        self.parts.symbol_at(sym).kind
     }
 
-    /// The choice that a symbol is a member of, if there is one.
+    /// The choice that a symbol is a member of, if any.
     pub fn member_of(&self, sym: u32) -> Option<u32>
         requires { sym < length self.now.shape.symbols }
         ensures value { result ≡ (spec.symbol_at self.now.shape sym).member_of }
         ensures within { IfSome result (λ i. i < length self.now.shape.choices) }
     {
-        self.parts.member_of(sym)
+        self.parts.symbol_at(sym).member_of
     }
 
     /// The text of an outer condition.
@@ -97,7 +99,7 @@ impl Tree {
         self.parts.outer(n)
     }
 
-    /// The number of the symbol with this name, if there is one.
+    /// The number of the symbol with this name, if any.
     pub fn symbol(&self, name: &str) -> Option<u32>
         ensures number { result ≡ spec.number_of self.now.shape name.now }
         ensures within { IfSome result (λ k. k < length self.now.shape.symbols) }
@@ -105,7 +107,7 @@ impl Tree {
         self.parts.symbol(name)
     }
 
-    /// The number of the modules symbol, if there is one.
+    /// The number of the modules symbol, if any.
     pub fn modules(&self) -> Option<u32>
         ensures value { result ≡ self.now.shape.modules }
         ensures within { IfSome result (λ k. k < length self.now.shape.symbols) }
@@ -116,41 +118,9 @@ impl Tree {
     /// Each symbol and choice after all that it refers to, members beside their choice.
     pub fn order(&self) -> &[Node]
         ensures list { result.now ≡ self.now.order }
-        ensures arranged { IsArranged self.now }
+        ensures tree { IsOrderedTree self.now }
     {
         self.order.as_slice()
-    }
-
-    /// The dependency of each place of a symbol.
-    pub fn places(&self, sym: u32) -> &[Expr]
-        requires { sym < length self.now.shape.symbols }
-        ensures { result.now ≡ (spec.symbol_at self.now.shape sym).places }
-    {
-        self.parts.places(sym)
-    }
-
-    /// The full conditions of a symbol's prompts.
-    pub fn prompts(&self, sym: u32) -> &[Expr]
-        requires { sym < length self.now.shape.symbols }
-        ensures { result.now ≡ (spec.symbol_at self.now.shape sym).prompts }
-    {
-        self.parts.prompts(sym)
-    }
-
-    /// The defaults of a symbol, in the order of the text.
-    pub fn defaults(&self, sym: u32) -> &[DefaultOf]
-        requires { sym < length self.now.shape.symbols }
-        ensures { result.now ≡ (spec.symbol_at self.now.shape sym).defaults }
-    {
-        self.parts.defaults(sym)
-    }
-
-    /// What a symbol selects.
-    pub fn selects(&self, sym: u32) -> &[SelectOf]
-        requires { sym < length self.now.shape.symbols }
-        ensures { result.now ≡ (spec.symbol_at self.now.shape sym).selects }
-    {
-        self.parts.selects(sym)
     }
 
     /// What a symbol implies.
@@ -158,7 +128,7 @@ impl Tree {
         requires { sym < length self.now.shape.symbols }
         ensures { result.now ≡ (spec.symbol_at self.now.shape sym).implies }
     {
-        self.parts.implies(sym)
+        self.parts.symbol_at(sym).implies.as_slice()
     }
 
     /// The type of a choice.
@@ -166,39 +136,24 @@ impl Tree {
         requires { choice < length self.now.shape.choices }
         ensures { result ≡ (spec.choice_at self.now.shape choice).kind }
     {
-        self.parts.choice_kind(choice)
+        self.parts.choice_at(choice).kind
     }
 
-    /// The members of a choice, in order of their numbers.
-    pub fn members(&self, choice: u32) -> &[u32]
-        requires { choice < length self.now.shape.choices }
-        ensures value { result.now ≡ (spec.choice_at self.now.shape choice).members }
-        ensures within { All (λ k. k < length self.now.shape.symbols) result.now }
+    /// The symbol with this number, with all its properties.
+    pub fn symbol_at(&self, sym: u32) -> &Symbol
+        requires { sym < length self.now.shape.symbols }
+        ensures value { result.now ≡ spec.symbol_at self.now.shape sym }
+        ensures choice { IfSome result.now.member_of (λ i. i < length self.now.shape.choices) }
     {
-        self.parts.members(choice)
+        self.parts.symbol_at(sym)
     }
 
-    /// The full conditions of a choice's prompts.
-    pub fn choice_prompts(&self, choice: u32) -> &[Expr]
+    /// The choice with this number, with its members and all its properties.
+    pub fn choice_at(&self, choice: u32) -> &Choice
         requires { choice < length self.now.shape.choices }
-        ensures { result.now ≡ (spec.choice_at self.now.shape choice).prompts }
+        ensures value { result.now ≡ spec.choice_at self.now.shape choice }
+        ensures members { All (λ k. k < length self.now.shape.symbols) result.now.members }
     {
-        self.parts.choice_prompts(choice)
-    }
-
-    /// The defaults of a choice, in the order of the text.
-    pub fn choice_defaults(&self, choice: u32) -> &[SelectOf]
-        requires { choice < length self.now.shape.choices }
-        ensures { result.now ≡ (spec.choice_at self.now.shape choice).defaults }
-    {
-        self.parts.choice_defaults(choice)
-    }
-
-    /// Whether a choice is optional.
-    pub fn optional(&self, choice: u32) -> bool
-        requires { choice < length self.now.shape.choices }
-        ensures { result ≡ (spec.choice_at self.now.shape choice).optional }
-    {
-        self.parts.optional(choice)
+        self.parts.choice_at(choice)
     }
 }

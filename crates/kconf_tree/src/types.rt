@@ -1,6 +1,6 @@
 ghost use Rattle.std.specs.Prelude.{◌≡◌, ◌<◌, length, IfOk, IfSome, OnOk, if◌then◌else◌};
 ghost use Rattle.indexmap.specs.IndexMap.{get, insert_entry};
-ghost use Rattle.ut_logic.specs.Text.{text_eq, text_eq-exact, text_equiv};
+ghost use Rattle.ut_text.specs.Text.{text_eq, text_eq-exact, text_equiv};
 ghost use Rattle.std.specs.Hash as fed;
 ghost use Rattle.std.proofs.Common.{ap};
 ghost use Rattle.kconf_tree.specs.Shape as shape;
@@ -46,10 +46,11 @@ pub struct Types {
 }
 
 impl Model for Types {
-    ghost use Rattle.std.specs.Prelude.{List, ℕ};
+    ghost use Rattle.std.specs.Prelude.{List};
+    ghost use Rattle.ut_text.specs.Bytes.{Bytes};
     ghost use Rattle.kconf_tree.specs.declared.types.Declared.{Declared};
 
-    ghost Value = { List (List ℕ × Declared) };
+    ghost Value = { List (Bytes × Declared) };
 
     ghost view = { λ t. t.map.entries };
 }
@@ -68,7 +69,7 @@ pub fn is_untyped(kind: Kind) -> bool
     matches!(kind, Kind::Untyped)
 }
 
-/// A symbol without a property.
+/// A symbol without properties.
 fn bare_symbol(alloc: Global, name: &Text, kind: Kind) -> Result<Symbol, AllocError>
     ensures { IfOk result (λ s. s ≡ types.bare_symbol name.now kind) }
 {
@@ -119,7 +120,7 @@ fn add(
 }
 
 impl Types {
-    /// The names that the entries declare. The only error is want of memory.
+    /// The names that the entries declare. The only error is out of memory.
     pub fn of(alloc: Global, configs: &[ConfigEntry]) -> Result<Types, AllocError>
         ensures { IfOk result (λ t. t ≡ types.types_of configs.now) }
     {
@@ -130,7 +131,7 @@ impl Types {
         Ok(Types { map })
     }
 
-    /// How many names there are.
+    /// The number of names.
     pub fn len(&self) -> usize
         ensures { result ≡ length self.now }
     {
@@ -164,7 +165,7 @@ impl Types {
         }
     }
 
-    /// The symbol with this number, without a property.
+    /// The symbol with this number, without properties.
     pub fn bare_symbol(&self, alloc: Global, number: usize) -> Result<Symbol, AllocError>
         requires { number < length self.now }
         ensures { IfOk result (λ s. s ≡ shape.symbol_at (types.typed self.now) number) }

@@ -1,5 +1,6 @@
 ghost use Rattle.std.specs.Prelude.{◌≡◌, ◌≤◌, length, IfOk};
 ghost use Rattle.kconf_tree.specs.Gathered.{gathered};
+ghost use Rattle.kconf_tree.specs.Limits.{max_symbols};
 ghost use Rattle.kconf_tree.specs.Types.{types_of};
 ghost use Rattle.kconf_tree.specs.Built.{HaveChoices};
 
@@ -13,14 +14,14 @@ use kconf_entries::Entries;
 use std::alloc::{AllocError, Global};
 
 impl Parts {
-    /// The symbols, choices and outer conditions of the entries. The only error is want of memory.
+    /// The symbols, choices and outer conditions of the entries. The only error is out of memory.
     pub(crate) fn gathered(
         alloc: Global,
         types: Types,
         entries: Entries,
     ) -> Result<Parts, AllocError>
         requires types { types ≡ types_of entries.configs }
-        requires few { length types ≤ 65536 }
+        requires few { length types ≤ max_symbols }
         requires choices { HaveChoices entries }
         ensures { IfOk result (λ t. t ≡ gathered entries) }
     {

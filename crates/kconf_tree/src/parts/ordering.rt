@@ -22,7 +22,7 @@ fn push_symbols(order: &mut Vec<Node>, symbols: &[u32]) -> Result<(), AllocError
     Ok(())
 }
 
-/// The node at a place; behind the last node there is the first symbol.
+/// The node at a place, or symbol 0 where the place is after the last node.
 fn node_at(nodes: &IndexSet<Node>, place: u32) -> Node
     ensures { result ≡ slice_index_or nodes.now.keys place (one.Sym 0) }
 {
@@ -52,12 +52,12 @@ impl Parts {
         match node {
             Node::Choice(choice) => {
                 if choice < self.choices() {
-                    push_symbols(order, self.members(choice))
+                    push_symbols(order, self.choice_at(choice).members.as_slice())
                 } else {
                     Ok(())
                 }
             }
-            _ => Ok(()),
+            Node::Sym(_) | Node::Block { .. } | Node::State { .. } => Ok(()),
         }
     }
 
@@ -81,7 +81,7 @@ impl Parts {
         ensures { OnOk result (order.new.items ≡ order.old.items ++ empty_choices 0 self.now.choices) }
     {
         for choice in 0..self.choices() {
-            if self.members(choice).is_empty() {
+            if self.choice_at(choice).members.is_empty() {
                 order.push(Node::Choice(choice))?;
             }
         }

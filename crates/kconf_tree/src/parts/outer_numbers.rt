@@ -1,6 +1,6 @@
 ghost use Rattle.std.specs.Prelude.{◌≡◌, ◌<◌, length, IfSome};
 ghost use Rattle.kconf_tree.specs.Shape as spec;
-ghost use Rattle.kconf_tree.specs.Value as value;
+ghost use Rattle.kconf_entries.specs.Written.{comparison_text};
 
 use crate::asked_comparison::AskedComparison;
 use crate::outer_text::AskedText;
@@ -8,7 +8,7 @@ use crate::parts::Parts;
 use kconf_entries::{Side, Sign};
 
 impl Parts {
-    /// The number of the outer condition with this text, if there is one.
+    /// The number of the outer condition with this text, if any.
     pub fn outer_number(&self, text: &str) -> Option<u64>
         ensures number { result ≡ spec.outer_at self.now text.now }
         ensures within { IfSome result (λ n. n < length self.now.outers) }
@@ -19,9 +19,9 @@ impl Parts {
         }
     }
 
-    /// The number of the outer condition that is this comparison, if there is one.
+    /// The number of the outer condition that is this comparison, if any.
     pub fn comparison_number(&self, left: &Side, sign: Sign, right: &Side) -> Option<u64>
-        ensures number { result ≡ spec.outer_at self.now (value.comparison_text left.now sign right.now) }
+        ensures number { result ≡ spec.outer_at self.now (comparison_text left.now sign right.now) }
         ensures within { IfSome result (λ n. n < length self.now.outers) }
     {
         match self

@@ -1,10 +1,12 @@
 ghost use Rattle.std.specs.Prelude.{◌≡◌, ◌<◌, length, map, All, IfSome};
 ghost use Rattle.kconf_tree.specs.Shape as spec;
 ghost use Rattle.kconf_tree.specs.Value as value;
+ghost use Rattle.kconf_entries.specs.Written.{comparison_text};
 
+use crate::links::Link;
 use crate::shape::{Counts, Selector};
 use crate::tree::Tree;
-use kconf_entries::{Side, Sign};
+use kconf_entries::{Expr, Side, Sign};
 
 impl Tree {
     /// The selects of a symbol by others, in order of declaration: who selects it, and the place of the select
@@ -17,6 +19,14 @@ impl Tree {
         self.links.selects[sym as usize].as_slice()
     }
 
+    /// The full condition of a select.
+    pub fn select_condition(&self, selector: Selector) -> &Expr
+        requires { spec.IsSelector self.now.shape selector }
+        ensures { result.now ≡ (spec.selecting_of self.now.shape selector).cond }
+    {
+        self.parts.condition(Link::Selects, selector)
+    }
+
     /// What a symbol counts as: the modules symbol as bool, a member by its choice, every other by its
     /// own type.
     pub fn counts_as(&self, sym: u32) -> Counts
@@ -26,14 +36,14 @@ impl Tree {
         self.parts.counts_as(sym)
     }
 
-    /// Whether a comparison compares two of the three values; every other is an outer condition.
+    /// Whether a comparison compares two of the three values; any other comparison is an outer condition.
     pub fn compares_trits(&self, left: &Side, sign: Sign, right: &Side) -> bool
         ensures { result ≡ value.compares_trits self.now.shape left.now sign right.now }
     {
         self.parts.compares_trits(left, sign, right)
     }
 
-    /// The number of the outer condition with this text, if there is one.
+    /// The number of the outer condition with this text, if any.
     pub fn outer_number(&self, text: &str) -> Option<u64>
         ensures number { result ≡ spec.outer_at self.now.shape text.now }
         ensures within { IfSome result (λ n. n < length self.now.shape.outers) }
@@ -41,10 +51,9 @@ impl Tree {
         self.parts.outer_number(text)
     }
 
-    /// The number of the outer condition that is this comparison, if there is one. It is found without
-    /// memory.
+    /// The number of the outer condition that is this comparison, if any. Allocates nothing.
     pub fn comparison_number(&self, left: &Side, sign: Sign, right: &Side) -> Option<u64>
-        ensures number { result ≡ spec.outer_at self.now.shape (value.comparison_text left.now sign right.now) }
+        ensures number { result ≡ spec.outer_at self.now.shape (comparison_text left.now sign right.now) }
         ensures within { IfSome result (λ n. n < length self.now.shape.outers) }
     {
         self.parts.comparison_number(left, sign, right)

@@ -23,7 +23,7 @@ impl Parts {
 }
 
 impl Tree {
-    /// The nodes that a symbol refers to that is no member, in order. The only error is want of memory.
+    /// The nodes that a symbol refers to that is no member, in order. The only error is out of memory.
     pub fn symbol_references(&self, alloc: Global, sym: u32) -> Result<Vec<Node>, AllocError>
         requires { sym < length self.now.shape.symbols }
         ensures { IfOk result (λ v. v.items ≡ references_of self.now.shape (one.Sym sym)) }
@@ -33,7 +33,7 @@ impl Tree {
         self.parts.nodes(alloc, row.as_slice())
     }
 
-    /// The nodes that a choice with its members refers to, in order. The only error is want of memory.
+    /// The nodes that a choice with its members refers to, in order. The only error is out of memory.
     pub fn choice_references(&self, alloc: Global, choice: u32) -> Result<Vec<Node>, AllocError>
         requires { choice < length self.now.shape.choices }
         ensures { IfOk result (λ v. v.items ≡ references_of self.now.shape (one.Choice choice)) }

@@ -1,10 +1,10 @@
-ghost use Rattle.std.specs.Prelude.{◌≡◌, ◌<◌, ◌++◌, ◌↔◌, length, List, ℕ, Contains, IfOk, OnOk};
+ghost use Rattle.std.specs.Prelude.{◌≡◌, ◌++◌, ◌↔◌, length, List, ℕ, Contains, IfOk, OnOk};
 ghost use Rattle.std.specs.List.{flat_map};
 ghost use Rattle.std.specs.List.Sorted.{IsStrictlySortedBy};
-ghost use Rattle.ut_logic.specs.Text.{text_cmp};
-ghost use Rattle.kconf_tree.specs.Shape as shape;
+ghost use Rattle.ut_text.specs.Text.{text_cmp};
 ghost use Rattle.kconf_tree.specs.Undeclared as spec;
 
+use crate::shape::{Choice, Symbol};
 use crate::tree::Tree;
 use kconf_entries::{DefaultOf, Expr, SelectOf, Side, Sign};
 use std::alloc::{AllocError, Global};
@@ -146,29 +146,32 @@ impl Tree {
     }
 
     /// Adds those of a symbol.
-    fn push_symbol(&self, alloc: Global, sym: u32, names: &mut Vec<Text>) -> Result<(), AllocError>
-        requires { sym < length self.now.shape.symbols }
-        ensures { OnOk result (names.new.items ≡ names.old.items ++ spec.undeclared_of_symbol self.now.shape (shape.symbol_at self.now.shape sym)) }
+    fn push_symbol(
+        &self,
+        alloc: Global,
+        symbol: &Symbol,
+        names: &mut Vec<Text>,
+    ) -> Result<(), AllocError>
+        ensures { OnOk result (names.new.items ≡ names.old.items ++ spec.undeclared_of_symbol self.now.shape symbol.now) }
     {
-        self.push_each(alloc, self.places(sym), names)?;
-        self.push_each(alloc, self.prompts(sym), names)?;
-        self.push_defaults(alloc, self.defaults(sym), names)?;
-        self.push_conditions(alloc, self.selects(sym), names)?;
-        self.push_conditions(alloc, self.implies(sym), names)
+        self.push_each(alloc, symbol.places.as_slice(), names)?;
+        self.push_each(alloc, symbol.prompts.as_slice(), names)?;
+        self.push_defaults(alloc, symbol.defaults.as_slice(), names)?;
+        self.push_conditions(alloc, symbol.selects.as_slice(), names)?;
+        self.push_conditions(alloc, symbol.implies.as_slice(), names)
     }
 
     /// Adds those of a choice.
     fn push_choice(
         &self,
         alloc: Global,
-        choice: u32,
+        choice: &Choice,
         names: &mut Vec<Text>,
     ) -> Result<(), AllocError>
-        requires { choice < length self.now.shape.choices }
-        ensures { OnOk result (names.new.items ≡ names.old.items ++ spec.undeclared_of_choice self.now.shape (shape.choice_at self.now.shape choice)) }
+        ensures { OnOk result (names.new.items ≡ names.old.items ++ spec.undeclared_of_choice self.now.shape choice.now) }
     {
-        self.push_each(alloc, self.choice_prompts(choice), names)?;
-        self.push_conditions(alloc, self.choice_defaults(choice), names)
+        self.push_each(alloc, choice.prompts.as_slice(), names)?;
+        self.push_conditions(alloc, choice.defaults.as_slice(), names)
     }
 
     /// Adds those of all symbols.
@@ -176,7 +179,7 @@ impl Tree {
         ensures { OnOk result (names.new.items ≡ names.old.items ++ flat_map (spec.undeclared_of_symbol self.now.shape) self.now.shape.symbols) }
     {
         for sym in 0..self.symbols() {
-            self.push_symbol(alloc, sym, names)?;
+            self.push_symbol(alloc, self.symbol_at(sym), names)?;
         }
         Ok(())
     }
@@ -186,13 +189,13 @@ impl Tree {
         ensures { OnOk result (names.new.items ≡ names.old.items ++ flat_map (spec.undeclared_of_choice self.now.shape) self.now.shape.choices) }
     {
         for choice in 0..self.choices() {
-            self.push_choice(alloc, choice, names)?;
+            self.push_choice(alloc, self.choice_at(choice), names)?;
         }
         Ok(())
     }
 
-    /// The undeclared names of the three-valued expressions, rising by their bytes, each once. What stands
-    /// in outer conditions alone doesn't count. The only error is want of memory.
+    /// The undeclared names of the three-valued expressions, rising by their bytes, each once. Names that
+    /// stand only in outer conditions do not count. The only error is out of memory.
     pub fn undeclared(&self, alloc: Global) -> Result<Vec<Text>, AllocError>
         ensures { IfOk result (λ v. spec.AreUndeclared self.now.shape v.items) }
     {

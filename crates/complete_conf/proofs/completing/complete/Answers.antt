@@ -15,5 +15,5 @@ returns-clause-kept c = let t = c.args.tree.now.shape in let p = part_of c.args.
 
 pub returns-clause-valid : goal.returns-clause-valid
 returns-clause-valid c = λ closed right. let t = c.args.tree.now.shape in let p = part_of c.args.known.now in let old = configuration_of c.args.config.now in
-    let whole = c.complete_nodes.ensures.value ∙ ap (completed t p old) c.order.ensures.list in let a = c.order.ensures.arranged in
+    let whole = c.complete_nodes.ensures.value ∙ ap (completed t p old) c.order.ensures.list in let a = c.order.ensures.tree in
     record { rules = subst (λ (d : Configuration). KeepsRules t d) (sym whole) (keeps_rules t c.args.tree.now.order p old a.made a.ordered closed right); undeclared_are_n = λ name. refl }

@@ -1,4 +1,4 @@
--- So many of the earlier ones.
+-- The number of the earlier ones.
 use Rattle.std.proofs.Common.{◌≡◌, ◌≤◌, length, filter, take}
 use Rattle.kconf_tree.specs.Valid.{is_y}
 use Rattle.complete_conf.specs.Config.{configuration_of}

@@ -1,4 +1,4 @@
--- What is left, behind what is there, gives the whole.
+-- What has been added, and what the rest adds, are the whole.
 use Rattle.std.proofs.Common.{◌≡◌, ◌++◌, drop}
 use Rattle.kconf_constr.specs.ChoiceFormulas.{are_y}
 use Rattle.kconf_constr.proofs.choice_formulas.add_each.Given as goal

@@ -1,4 +1,4 @@
--- What is left, behind what is there, gives the whole.
+-- What has been added, and what the rest adds, are the whole.
 use Rattle.std.proofs.Common.{◌≡◌, ◌++◌, drop, map}
 use Rattle.ut_logic.specs.declared.node.Node.TheVariants.{Sym}
 use Rattle.kconf_constr.proofs.facts.add_members.Given as goal

@@ -8,7 +8,7 @@ pub returns-clause-closed : goal.returns-clause-closed
 returns-clause-closed c = IfOk-weaker c.facts.result _ _ (λ f h. closed_of c.whole.result (whole c.args.tree.now.shape) f.list h c.whole.ensures) c.facts.ensures
 
 pub returns-clause-means : goal.returns-clause-means
-returns-clause-means c = λ b. IfOk-weaker c.facts.result _ _ (λ f h. means_of c.whole.result (whole c.args.tree.now.shape) f.list h c.whole.ensures c.order-order.ensures.arranged.made b) c.facts.ensures
+returns-clause-means c = λ b. IfOk-weaker c.facts.result _ _ (λ f h. means_of c.whole.result (whole c.args.tree.now.shape) f.list h c.whole.ensures c.order-order.ensures.tree.made b) c.facts.ensures
 
 pub returns-clause-valid : goal.returns-clause-valid
-returns-clause-valid c = λ b. IfOk-weaker c.facts.result _ _ (λ f h. valid_of c.whole.result c.args.tree.now.shape f.list h c.whole.ensures c.order-order.ensures.arranged.made b) c.facts.ensures
+returns-clause-valid c = λ b. IfOk-weaker c.facts.result _ _ (λ f h. valid_of c.whole.result c.args.tree.now.shape f.list h c.whole.ensures c.order-order.ensures.tree.made b) c.facts.ensures

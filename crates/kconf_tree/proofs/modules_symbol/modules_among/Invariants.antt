@@ -1,4 +1,4 @@
--- What is left tells the whole.
+-- The rest gives the same answer as the whole.
 use Rattle.std.proofs.Common.{◌≡◌, drop}
 use Rattle.kconf_tree.specs.Modules.{modules_from}
 use Rattle.kconf_tree.proofs.modules_symbol.modules_among.Given as goal

@@ -1,5 +1,5 @@
 use Rattle.std.proofs.Common.{sym, ap, ◌∙◌}
-use Rattle.ut_logic.specs.Text.{text_eq, text_equiv}
+use Rattle.ut_text.specs.Text.{text_eq, text_equiv}
 use Rattle.kconf_tree.proofs.Places.{distinct_push}
 use Rattle.indexmap.specs.IndexSet.{insert_key}
 use Rattle.kconf_tree.proofs.outers.distinct.Goals as goal

@@ -1,4 +1,4 @@
--- What is left, behind what is there, gives the whole.
+-- What has been added, and what the rest adds, are the whole.
 use Rattle.std.proofs.Common.{◌≡◌, ◌++◌, drop}
 use Rattle.std.specs.List.{flat_map}
 use Rattle.kconf_tree.specs.Gathered.{outers_of_config}

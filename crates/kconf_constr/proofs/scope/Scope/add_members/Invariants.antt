@@ -1,4 +1,4 @@
--- What is left, behind what is there, gives the whole.
+-- What has been added, and what the rest adds, are the whole.
 use Rattle.std.proofs.Common.{◌≡◌, ◌++◌, drop}
 use Rattle.ut_logic.specs.declared.item.Item.TheVariants.{ModeY}
 use Rattle.ut_logic.specs.declared.formula.Formula.TheVariants.{Is}

@@ -1,7 +1,7 @@
 use Rattle.std.proofs.Common.{ap, ◌∙◌}
-use Rattle.ut_logic.specs.Text.{text_eq, text_equiv}
+use Rattle.ut_text.specs.Text.{text_eq, text_equiv}
 use Rattle.kconf_tree.specs.Shape.{Shape, outer_at}
-use Rattle.kconf_tree.specs.Value.{comparison_text}
+use Rattle.kconf_entries.specs.Written.{comparison_text}
 use Rattle.kconf_tree.specs.Feeding.{asked_text}
 use Rattle.kconf_tree.specs.PartsInside.{shape_of}
 use Rattle.kconf_tree.proofs.Places.{same_position}

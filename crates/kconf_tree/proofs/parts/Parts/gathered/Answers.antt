@@ -1,5 +1,5 @@
 use Rattle.std.proofs.Common.{◌≡◌, ◌<◌, sym, ap, ◌∙◌, subst, List, length, map, All, arith}
-use Rattle.ut_logic.specs.Text.{text_eq}
+use Rattle.ut_text.specs.Text.{text_eq}
 use Rattle.kconf_entries.specs.declared.entries.ChoiceEntry.{ChoiceEntry}
 use Rattle.kconf_tree.specs.declared.shape.Symbol.{Symbol}
 use Rattle.kconf_tree.specs.declared.shape.Choice.{Choice}
@@ -24,7 +24,7 @@ pub choices_with-requires-clause-there : goal.choices_with-requires-clause-there
 choices_with-requires-clause-there c = let es = c.args.entries.configs in
     let symbols : c.deref-2.result.now ≡ symbols_of es = c.deref-2.ensures.value ∙ (c.in_ok-symbols.ensures ∙ ap symbols_of c.into_vec.ensures) in
     subst (λ (ss : List Symbol). All (λ (s : Symbol). IsBelow (length c.into_vec-2.result.items) s.member_of) ss) (sym symbols)
-    (subst (λ n. All (λ (s : Symbol). IsBelow n s.member_of) (symbols_of es)) (sym (ap length c.into_vec-2.ensures)) (members_below (length c.args.entries.choices) es c.requires.choices.there))
+    (subst (λ n. All (λ (s : Symbol). IsBelow n s.member_of) (symbols_of es)) (sym (ap length c.into_vec-2.ensures)) (members_below (length c.args.entries.choices) es c.requires.choices.named))
 
 pub invariant_of-result : goal.invariant_of-result
 invariant_of-result c = let es = c.args.entries.configs in let cs = c.args.entries.choices in
@@ -39,7 +39,7 @@ invariant_of-result c = let es = c.args.entries.configs in let cs = c.args.entri
       choices = omega (arith, ap length choices, length-choices es 0 cs, c.requires.choices.numbered);
       modules = subst (λ n. IsBelow n c.modules_among-modules.result) (ap length c.deref-3.ensures.value) c.modules_among-modules.ensures.within;
       member_of = subst (λ (ss : List Symbol). All (λ (x : Symbol). IsBelow (length c.in_ok-choices.choices.items) x.member_of) ss) (sym symbols)
-          (subst (λ n. All (λ (x : Symbol). IsBelow n x.member_of) (symbols_of es)) (sym (ap length choices ∙ length-choices es 0 cs)) (members_below (length cs) es c.requires.choices.there));
+          (subst (λ n. All (λ (x : Symbol). IsBelow n x.member_of) (symbols_of es)) (sym (ap length choices ∙ length-choices es 0 cs)) (members_below (length cs) es c.requires.choices.named));
       members = subst (λ (xs : List Choice). All (λ (x : Choice). All (λ k. k < length c.in_ok-symbols.symbols.items) x.members) xs) (sym choices)
           (subst (λ (ss : List Symbol). All (λ (x : Choice). All (λ k. k < length ss) x.members) (choices_from es 0 cs)) (sym symbols) (choices_below es cs));
     }

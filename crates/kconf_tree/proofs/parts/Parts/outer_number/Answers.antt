@@ -1,5 +1,5 @@
 use Rattle.std.proofs.Common.{ap, ◌∙◌}
-use Rattle.ut_logic.specs.Text.{text_eq, text_equiv}
+use Rattle.ut_text.specs.Text.{text_eq, text_equiv}
 use Rattle.kconf_tree.specs.Shape.{Shape, outer_at}
 use Rattle.kconf_tree.proofs.Places.{same_position}
 use Rattle.kconf_tree.proofs.parts.Parts.outer_number.Goals as goal

@@ -1,4 +1,4 @@
--- What is left, behind what is there, gives the whole.
+-- What has been added, and what the rest adds, are the whole.
 use Rattle.std.proofs.Common.{◌≡◌, ◌++◌, drop}
 use Rattle.kconf_tree.specs.Orders.{empty_choices}
 use Rattle.kconf_tree.proofs.parts.Parts.push_empty.Given as goal

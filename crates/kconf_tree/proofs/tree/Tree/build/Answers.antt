@@ -7,7 +7,7 @@ use Rattle.kconf_tree.specs.Limits.{each_past, first_passed}
 use Rattle.kconf_tree.specs.Orders.{IsOrder, IsRecursive}
 use Rattle.kconf_tree.specs.Built.{IsRefused}
 use Rattle.kconf_tree.proofs.BuildLaws.{passed_later, refused_by}
-use Rattle.kconf_tree.proofs.OrderNodes.{arranged_here}
+use Rattle.kconf_tree.proofs.OrderNodes.{ordered_here}
 use Rattle.kconf_tree.proofs.tree.Tree.build.Goals as goal
 
 pub returns-in-Some-passed-clause-refused : goal.returns-in-Some-passed-clause-refused
@@ -28,7 +28,7 @@ returns-in_err-order-clause-refused c = let e = c.args.entries in
 pub invariant_of-result : goal.invariant_of-result
 invariant_of-result c = record {
   links = c.in_ok-links.ensures;
-  arranged = arranged_here c.args.entries (record { shape = c.in_ok-parts.parts; order = c.in_ok-order.order.items }) c.requires c.in_ok-parts.ensures c.in_ok-order.ensures.order;
+  tree = ordered_here c.args.entries (record { shape = c.in_ok-parts.parts; order = c.in_ok-order.order.items }) c.requires c.in_ok-parts.ensures c.in_ok-order.ensures.order;
 }
 
 pub returns-clause-built : goal.returns-clause-built

@@ -3,7 +3,7 @@ use Rattle.std.proofs.lemmas.List.{append-nil, nil_from_length}
 use Rattle.std.specs.Ordering.{eq_by_cmp}
 use Rattle.std.specs.BTreeSet.{contains}
 use Rattle.std.proofs.lemmas.Cmp.{eq_by_cmp_equiv}
-use Rattle.ut_logic.specs.Text.{text_cmp, text_total}
+use Rattle.ut_text.specs.Text.{text_cmp, text_total}
 use Rattle.kconf_tree.proofs.Rising.{any_push, same_members}
 use Rattle.kconf_tree.proofs.tree.undeclared.distinct.Goals as goal
 

@@ -3,7 +3,7 @@ use Rattle.std.proofs.Common.{◌≡◌, ◌++◌, ℕ, List}
 use Rattle.std.specs.List.{list_any}
 use Rattle.std.specs.Ordering.{eq_by_cmp}
 use Rattle.std.specs.BTreeSet.{contains}
-use Rattle.ut_logic.specs.Text.{text_cmp}
+use Rattle.ut_text.specs.Text.{text_cmp}
 use Rattle.kconf_tree.proofs.tree.undeclared.distinct.Given as goal
 
 abbrev pub invariant-loop-name : goal.invariant-loop-name

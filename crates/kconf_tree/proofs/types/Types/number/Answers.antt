@@ -1,5 +1,5 @@
 use Rattle.std.proofs.Common.{sym, ap, ◌∙◌}
-use Rattle.ut_logic.specs.Text.{text_eq, text_equiv}
+use Rattle.ut_text.specs.Text.{text_eq, text_equiv}
 use Rattle.kconf_tree.specs.Shape.{number_of}
 use Rattle.kconf_tree.specs.Types.{typed, typed_symbol}
 use Rattle.kconf_tree.proofs.Places.{position-map, same_position}

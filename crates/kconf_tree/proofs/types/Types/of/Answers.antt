@@ -2,7 +2,7 @@ use Rattle.std.proofs.Common.{ap, ◌∙◌, take}
 use Rattle.std.specs.Map.{lookup}
 use Rattle.std.proofs.lemmas.List.{take_all}
 use Rattle.indexmap.specs.IndexMap.{insert_entry}
-use Rattle.ut_logic.specs.Text.{text_eq}
+use Rattle.ut_text.specs.Text.{text_eq}
 use Rattle.kconf_tree.specs.Types.{types_of, joined_with}
 use Rattle.kconf_tree.proofs.Steps.{one_more}
 use Rattle.kconf_tree.proofs.TypeLaws.{types_push}

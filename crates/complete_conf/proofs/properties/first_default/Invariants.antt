@@ -2,7 +2,7 @@
 use Rattle.std.proofs.Common.{◌≡◌, drop}
 use Rattle.kconf_tree.specs.Properties as spec
 use Rattle.complete_conf.specs.Config.{configuration_of}
-use Rattle.complete_conf.proofs.limits.first_default.Given as goal
+use Rattle.complete_conf.proofs.properties.first_default.Given as goal
 
 abbrev pub invariant-loop-default : goal.invariant-loop-default
 invariant-loop-default l = spec.first_default l.tree.shape (configuration_of l.config) l.defaults ≡ spec.first_default l.tree.shape (configuration_of l.config) (drop l.default-index l.defaults)

@@ -1,4 +1,4 @@
--- The limits of a symbol, and its calculated value, depend on what it refers to alone.
+-- A symbol's visibility, reverse dependency, default and calculated value depend on what it refers to alone.
 use Rattle.std.proofs.Common.{◌≡◌, ℕ, ◌==◌, cond, List, [], ◌∷◌, ◌++◌, map, refl, ap, sym, ◌∙◌, min, Option}
 use Rattle.std.specs.List.{flat_map}
 use Rattle.std.specs.Option.{option_to_list}

@@ -6,7 +6,7 @@ use Rattle.ut_logic.specs.declared.node.Node.{Node}
 use Rattle.ut_logic.specs.declared.node.Node.TheVariants.{Sym, Choice}
 use Rattle.kconf_tree.specs.Shape.{Shape, symbol_at, choice_at}
 use Rattle.kconf_tree.specs.Apart.{AreApart}
-use Rattle.kconf_tree.specs.Arranged.{Arranged}
+use Rattle.kconf_tree.specs.OrderedTree.{OrderedTree}
 use Rattle.kconf_tree.specs.Orders.{IsOrder}
 
 -- the number is one of the list
@@ -26,7 +26,7 @@ IsNodeOf t (Choice i) = i < length t.choices
 IsNodeOf t n = ⊥
 
 -- the tree is well made, and its order is one
-pub record IsArranged (t : Arranged) : Type 0 where
+pub record IsOrderedTree (t : OrderedTree) : Type 0 where
   pub made : IsWellMade t.shape
   pub ordered : IsOrder t.shape t.order
   pub within : All (IsNodeOf t.shape) t.order

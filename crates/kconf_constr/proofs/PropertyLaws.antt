@@ -1,4 +1,4 @@
--- The limits of a symbol as formulas.
+-- A symbol's visibility, reverse dependency and default as formulas.
 use Rattle.std.proofs.Common.{◌≡◌, ℕ, ◌≤◌, ◌==◌, Bool, true, false, not, ◌&&◌, ◌||◌, cond, List, [], ◌∷◌, ◌++◌, map, refl, ap, subst, ◌∙◌, min, arith}
 use Rattle.std.proofs.lemmas.Bool.Decides.{nat_tests}
 use Rattle.ut_logic.specs.declared.item.Item.{Item}
@@ -14,18 +14,18 @@ use Rattle.kconf_tree.specs.declared.place.Place.TheVariants.{Condition, Value}
 use Rattle.kconf_tree.specs.Value.{Configuration, value_in, own_value, greatest}
 use Rattle.kconf_tree.specs.Properties.{visibility_of, reverse_of, default_of, first_default, selected_by}
 use Rattle.kconf_tree.proofs.Small.{on_three, at_three}
-use Rattle.kconf_constr.specs.declared.half.Half.{Half}
-use Rattle.kconf_constr.specs.declared.half.Half.TheVariants.{NotN, IsY}
+use Rattle.kconf_constr.specs.declared.level.Level.{Level}
+use Rattle.kconf_constr.specs.declared.level.Level.TheVariants.{NotN, IsY}
 use Rattle.kconf_constr.specs.Scope.{Scope}
-use Rattle.kconf_constr.specs.Halves.{Halves, halves, half_of, own_halves, each, some}
+use Rattle.kconf_constr.specs.Levels.{Levels, levels, at_level, own_levels, each, some}
 use Rattle.kconf_constr.specs.Stands.{configuration_of}
-use Rattle.kconf_constr.specs.Limits.{prompts_halves, visibility_halves, reverse_halves, selected_half, default_halves, default_parts}
+use Rattle.kconf_constr.specs.PropertyFormulas.{prompts_levels, visibility_levels, reverse_levels, selected_at, default_levels, default_parts}
 use Rattle.kconf_constr.proofs.Tables.{on_both, at_both, same_bool, same_bool_is}
 use Rattle.kconf_constr.proofs.ValueLaws.{Stands, stands_any, stands_own, expr_right}
 
 -- ---- lists where each element stands for a number
 
-module _ (v : Item → Bool) {E : Type 0} (h : E → Halves) (n : E → ℕ) (right : (e : E) → Stands v (h e) (n e)) where
+module _ (v : Item → Bool) {E : Type 0} (h : E → Levels) (n : E → ℕ) (right : (e : E) → Stands v (h e) (n e)) where
   abbrev paired : List E → List ((e : E) × Stands v (h e) (n e))
   paired [] = []
   paired (e ∷ es) = (e, right e) ∷ paired es
@@ -43,7 +43,7 @@ pair_not_n m n = grind (arith, nat_tests)
 pair_is_y : (m n : ℕ) → m ≤ 2 → n ≤ 2 → all_true ((m == 2) ∷ (n == 2) ∷ []) ≡ (min m n == 2)
 pair_is_y m n h g = grind (arith, nat_tests)
 
-stands_pair : (v : Item → Bool) (a b : Halves) (m n : ℕ) → Stands v a m → Stands v b n → Stands v (each (a ∷ b ∷ [])) (min m n)
+stands_pair : (v : Item → Bool) (a b : Levels) (m n : ℕ) → Stands v a m → Stands v b n → Stands v (each (a ∷ b ∷ [])) (min m n)
 stands_pair v a b m n s t = record {
   not_n = truth-all_of v (a.not_n ∷ b.not_n ∷ []) ∙ rw (s.not_n, t.not_n) (pair_not_n m n);
   is_y = truth-all_of v (a.is_y ∷ b.is_y ∷ []) ∙ rw (s.is_y, t.is_y) (pair_is_y m n s.small t.small);
@@ -70,18 +70,18 @@ fills p = on_both (λ b. on_three (λ x. on_three (λ y. on_three (λ z. p b x y
 pub by_table : (p : Table) → fills p ≡ true → (b : Bool) (x y z : ℕ) → x ≤ 2 → y ≤ 2 → z ≤ 2 → p b x y z ≡ true
 by_table p h b x y z i j k = at_three (λ z. p b x y z) (at_three (λ y. on_three (λ z. p b x y z)) (at_three (λ x. on_three (λ y. on_three (λ z. p b x y z))) (at_both (λ b. on_three (λ x. on_three (λ y. on_three (λ z. p b x y z)))) h b) x i) y j) z k
 
-abbrev says : Half → ℕ → Bool
+abbrev says : Level → ℕ → Bool
 says NotN n = not (n == 0)
 says IsY n = n == 2
 
-abbrev step_left : Half → Table
+abbrev step_left : Level → Table
 step_left h b x y z = (b && (says h x && (says h y && true))) || ((b && (not (not (x == 0)) && true)) && says h z)
 
-step_table : (h : Half) → fills (λ b x y z. same_bool (step_left h b x y z) (b && says h (cond (x == 0) z (min y x)))) ≡ true
+step_table : (h : Level) → fills (λ b x y z. same_bool (step_left h b x y z) (b && says h (cond (x == 0) z (min y x)))) ≡ true
 step_table NotN = refl
 step_table IsY = refl
 
-default_step : (h : Half) (b : Bool) (x y z : ℕ) → x ≤ 2 → y ≤ 2 → z ≤ 2 → step_left h b x y z ≡ (b && says h (cond (x == 0) z (min y x)))
+default_step : (h : Level) (b : Bool) (x y z : ℕ) → x ≤ 2 → y ≤ 2 → z ≤ 2 → step_left h b x y z ≡ (b && says h (cond (x == 0) z (min y x)))
 default_step h b x y z i j k = same_bool_is _ _ (by_table (λ b x y z. same_bool (step_left h b x y z) (b && says h (cond (x == 0) z (min y x)))) (step_table h) b x y z i j k)
 
 module _ (s : Scope) (v : Item → Bool) where
@@ -96,52 +96,52 @@ module _ (s : Scope) (v : Item → Bool) where
   first_small [] = omega arith
   first_small (d ∷ ds) = either (value_in s.shape c Condition d.cond == 0) (first_default s.shape c ds) (min (value_in s.shape c Value d.value) (value_in s.shape c Condition d.cond)) (first_small ds) (omega (arith, (expr_right s v Value d.value).small))
 
-  half_says : (h : Half) (a : Halves) (n : ℕ) → Stands v a n → truth v (half_of h a) ≡ says h n
-  half_says NotN a n stands = stands.not_n
-  half_says IsY a n stands = stands.is_y
+  level_says : (h : Level) (a : Levels) (n : ℕ) → Stands v a n → truth v (at_level h a) ≡ says h n
+  level_says NotN a n stands = stands.not_n
+  level_says IsY a n stands = stands.is_y
 
-  parts_say : (h : Half) (nots : List Formula) (ds : List DefaultOf) → any_true (truths v (default_parts s h nots ds)) ≡ (all_true (truths v nots) && says h (first_default s.shape c ds))
+  parts_say : (h : Level) (nots : List Formula) (ds : List DefaultOf) → any_true (truths v (default_parts s h nots ds)) ≡ (all_true (truths v nots) && says h (first_default s.shape c ds))
   parts_say h nots [] = none h (all_true (truths v nots))
     where
-      none : (h : Half) (b : Bool) → false ≡ (b && says h 0)
+      none : (h : Level) (b : Bool) → false ≡ (b && says h 0)
       none NotN true = refl
       none NotN false = refl
       none IsY true = refl
       none IsY false = refl
   parts_say h nots (d ∷ ds) = rw (
-    truth-all_of v (nots ++ half_of h (halves s Condition d.cond) ∷ half_of h (halves s Value d.value) ∷ []),
-    all_append v nots (half_of h (halves s Condition d.cond) ∷ half_of h (halves s Value d.value) ∷ []),
-    parts_say h (nots ++ not_of (half_of NotN (halves s Condition d.cond)) ∷ []) ds,
-    all_append v nots (not_of (half_of NotN (halves s Condition d.cond)) ∷ []),
-    half_says h (halves s Condition d.cond) (value_in s.shape c Condition d.cond) (expr_right s v Condition d.cond),
-    half_says h (halves s Value d.value) (value_in s.shape c Value d.value) (expr_right s v Value d.value),
-    truth-not_of v (half_of NotN (halves s Condition d.cond)),
+    truth-all_of v (nots ++ at_level h (levels s Condition d.cond) ∷ at_level h (levels s Value d.value) ∷ []),
+    all_append v nots (at_level h (levels s Condition d.cond) ∷ at_level h (levels s Value d.value) ∷ []),
+    parts_say h (nots ++ not_of (at_level NotN (levels s Condition d.cond)) ∷ []) ds,
+    all_append v nots (not_of (at_level NotN (levels s Condition d.cond)) ∷ []),
+    level_says h (levels s Condition d.cond) (value_in s.shape c Condition d.cond) (expr_right s v Condition d.cond),
+    level_says h (levels s Value d.value) (value_in s.shape c Value d.value) (expr_right s v Value d.value),
+    truth-not_of v (at_level NotN (levels s Condition d.cond)),
     (expr_right s v Condition d.cond).not_n,
   ) (default_step h (all_true (truths v nots)) (value_in s.shape c Condition d.cond) (value_in s.shape c Value d.value) (first_default s.shape c ds) (expr_right s v Condition d.cond).small (expr_right s v Value d.value).small (first_small ds))
 
-  pub default_stands : (k : ℕ) → Stands v (default_halves s k) (default_of s.shape c k)
+  pub default_stands : (k : ℕ) → Stands v (default_levels s k) (default_of s.shape c k)
   default_stands k = record {
     not_n = truth-any_of v _ ∙ parts_say NotN [] (symbol_at s.shape k).defaults;
     is_y = truth-any_of v _ ∙ parts_say IsY [] (symbol_at s.shape k).defaults;
     small = first_small (symbol_at s.shape k).defaults;
   }
 
-  pub visibility_stands : (k : ℕ) → Stands v (visibility_halves s k) (visibility_of s.shape c k)
-  visibility_stands k = stands_some v (halves s Condition) (value_in s.shape c Condition) (expr_right s v Condition) (symbol_at s.shape k).prompts
+  pub visibility_stands : (k : ℕ) → Stands v (visibility_levels s k) (visibility_of s.shape c k)
+  visibility_stands k = stands_some v (levels s Condition) (value_in s.shape c Condition) (expr_right s v Condition) (symbol_at s.shape k).prompts
 
-  pub own_stands : (k : ℕ) → Stands v (own_halves s k) (own_value s.shape c k)
+  pub own_stands : (k : ℕ) → Stands v (own_levels s k) (own_value s.shape c k)
   own_stands k = stands_own v (counts_as s.shape k) k
 
-  selected_stands : (x : Selecting) → Stands v (each (own_halves s x.by ∷ halves s Condition x.cond ∷ [])) (selected_by s.shape c x)
+  selected_stands : (x : Selecting) → Stands v (each (own_levels s x.by ∷ levels s Condition x.cond ∷ [])) (selected_by s.shape c x)
   selected_stands x = stands_pair v _ _ _ _ (own_stands x.by) (expr_right s v Condition x.cond)
 
-  fused : (h : Half) (xs : List Selecting) → map (selected_half s h) xs ≡ map (half_of h) (map (λ x. each (own_halves s x.by ∷ halves s Condition x.cond ∷ [])) xs)
+  fused : (h : Level) (xs : List Selecting) → map (selected_at s h) xs ≡ map (at_level h) (map (λ x. each (own_levels s x.by ∷ levels s Condition x.cond ∷ [])) xs)
   fused h [] = refl
-  fused NotN (x ∷ xs) = ap (λ fs. selected_half s NotN x ∷ fs) (fused NotN xs)
-  fused IsY (x ∷ xs) = ap (λ fs. selected_half s IsY x ∷ fs) (fused IsY xs)
+  fused NotN (x ∷ xs) = ap (λ fs. selected_at s NotN x ∷ fs) (fused NotN xs)
+  fused IsY (x ∷ xs) = ap (λ fs. selected_at s IsY x ∷ fs) (fused IsY xs)
 
-  pub reverse_stands : (k : ℕ) → Stands v (reverse_halves s k) (reverse_of s.shape c k)
-  reverse_stands k = rw (fused NotN (selectors_of s.shape k), fused IsY (selectors_of s.shape k)) (stands_some v (λ x. each (own_halves s x.by ∷ halves s Condition x.cond ∷ [])) (selected_by s.shape c) selected_stands (selectors_of s.shape k))
+  pub reverse_stands : (k : ℕ) → Stands v (reverse_levels s k) (reverse_of s.shape c k)
+  reverse_stands k = rw (fused NotN (selectors_of s.shape k), fused IsY (selectors_of s.shape k)) (stands_some v (λ x. each (own_levels s x.by ∷ levels s Condition x.cond ∷ [])) (selected_by s.shape c) selected_stands (selectors_of s.shape k))
 
-  pub prompts_stand : (es : List Expr) → Stands v (prompts_halves s es) (greatest (map (value_in s.shape c Condition) es))
-  prompts_stand es = stands_some v (halves s Condition) (value_in s.shape c Condition) (expr_right s v Condition) es
+  pub prompts_stand : (es : List Expr) → Stands v (prompts_levels s es) (greatest (map (value_in s.shape c Condition) es))
+  prompts_stand es = stands_some v (levels s Condition) (value_in s.shape c Condition) (expr_right s v Condition) es

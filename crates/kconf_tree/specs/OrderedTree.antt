@@ -4,6 +4,6 @@ use Rattle.ut_logic.specs.declared.node.Node.{Node}
 use Rattle.kconf_tree.specs.Shape.{Shape}
 
 -- the tree, and its nodes in the order in which values can be calculated
-pub record Arranged : Type 0 where
+pub record OrderedTree : Type 0 where
   pub shape : Shape
   pub order : List Node

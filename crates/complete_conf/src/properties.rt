@@ -14,7 +14,8 @@ pub fn visibility(tree: &Tree, config: &Config, sym: u32) -> Trit
     requires { sym < length tree.now.shape.symbols }
     ensures { rank result ≡ spec.visibility_of tree.now.shape (configuration_of config.now) sym }
 {
-    greatest_of(tree, config, Place::Condition, tree.prompts(sym))
+    let prompts = &tree.symbol_at(sym).prompts;
+    greatest_of(tree, config, Place::Condition, prompts.as_slice())
 }
 
 /// The visibility of a choice.
@@ -22,7 +23,8 @@ pub fn choice_visibility(tree: &Tree, config: &Config, choice: u32) -> Trit
     requires { choice < length tree.now.shape.choices }
     ensures { rank result ≡ spec.choice_visibility_of tree.now.shape (configuration_of config.now) choice }
 {
-    greatest_of(tree, config, Place::Condition, tree.choice_prompts(choice))
+    let prompts = &tree.choice_at(choice).prompts;
+    greatest_of(tree, config, Place::Condition, prompts.as_slice())
 }
 
 /// The value of the first default whose condition isn't n.
@@ -43,5 +45,5 @@ pub fn default_value(tree: &Tree, config: &Config, sym: u32) -> Trit
     requires { sym < length tree.now.shape.symbols }
     ensures { rank result ≡ spec.default_of tree.now.shape (configuration_of config.now) sym }
 {
-    first_default(tree, config, tree.defaults(sym))
+    first_default(tree, config, tree.symbol_at(sym).defaults.as_slice())
 }
