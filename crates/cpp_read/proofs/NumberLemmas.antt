@@ -1,5 +1,5 @@
 -- Laws of numbers: digits never make a value smaller, so that a value past 128 bits stays so.
-use Rattle.std.proofs.Common.{◌≡◌, ℕ, ◌+◌, ◌*◌, ◌^◌, ◌<◌, ◌≤◌, ◌∷◌, Bool, true, false, List, [], refl, sym, arith}
+use Rattle.std.proofs.Common.{◌≡◌, ℕ, ◌+◌, ◌*◌, ◌^◌, ◌<◌, ◌≤◌, ◌∷◌, Bool, true, false, [], refl, sym, arith}
 use Rattle.std.specs.Prelude.{nat_lt, None, Some}
 use borrow.Author.Tests.{ltb-true, ltb-false}
 use Rattle.ut_text.specs.Bytes.{Bytes}

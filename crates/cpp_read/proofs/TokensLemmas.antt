@@ -1,5 +1,5 @@
 -- Laws of tokens: the bytes of a token are passed.
-use Rattle.std.proofs.Common.{◌≡◌, ℕ, ◌+◌, ◌<◌, ◌∷◌, Bool, true, false, not, List, [], take, drop, suc, zero, refl, sym, arith}
+use Rattle.std.proofs.Common.{◌≡◌, ℕ, ◌+◌, ◌<◌, ◌∷◌, Bool, true, false, not, [], take, drop, suc, zero, refl, sym, arith}
 use Rattle.std.specs.List.{prefix_len}
 use Rattle.std.proofs.lemmas.Bool.{false≢true}
 use Rattle.ut_text.specs.Bytes.{Bytes}

@@ -1,6 +1,6 @@
 -- What the readers of conditions promise each other.
 -- This project's own; no contract of a public call rests on it.
-use Rattle.std.specs.Prelude.{ℕ, ◌++◌, Bool, true, false, Result, Ok, List, [], ◌∷◌}
+use Rattle.std.specs.Prelude.{◌++◌, Bool, true, false, Result, Ok, List, [], ◌∷◌}
 use Rattle.ut_text.specs.Bytes.{Bytes, space}
 use Rattle.cpp_read.specs.declared.token.Token.{Token}
 use Rattle.cpp_directives.specs.declared.condition.Cond.{Cond}

@@ -1,6 +1,6 @@
 -- What the readers of lines promise each other.
 -- This project's own; no contract of a public call rests on it.
-use Rattle.std.specs.Prelude.{◌≡◌, ◌<◌, length, ℕ, ◌==◌, List, [], ◌∷◌, if◌then◌else◌}
+use Rattle.std.specs.Prelude.{◌≡◌, ◌<◌, length, ◌==◌, List, [], ◌∷◌, if◌then◌else◌}
 use Rattle.ut_text.specs.Bytes.{Bytes, newline}
 use Rattle.cpp_read.specs.declared.uncommented.Found.{Found}
 use Rattle.cpp_read.specs.declared.uncommented.Found.TheVariants.{End, Other, Sign}

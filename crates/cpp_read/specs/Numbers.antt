@@ -1,6 +1,6 @@
 -- Whole numbers: decimal, octal or hexadecimal digits with an ending of u, U, l and L spliced_bytes, and their values.
 -- Rule: ISO C, "Integer constants"; any ending of these spliced_bytes is allowed.
-use Rattle.std.specs.Prelude.{ℕ, ◌+◌, ◌-◌, ◌*◌, ◌^◌, Bool, false, ◌==◌, ◌||◌, ◌&&◌, nat_le, nat_lt, codes, take, drop, Option, None, Some, List, [], ◌∷◌, if◌then◌else◌}
+use Rattle.std.specs.Prelude.{ℕ, ◌+◌, ◌-◌, ◌*◌, ◌^◌, Bool, false, ◌==◌, ◌&&◌, nat_le, nat_lt, codes, take, drop, Option, None, Some, [], ◌∷◌, if◌then◌else◌}
 use Rattle.std.specs.List.{list_all, prefix_len}
 use Rattle.std.specs.Int.{is_in_range}
 use Rattle.ut_text.specs.Bytes.{Bytes}

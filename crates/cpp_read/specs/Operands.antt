@@ -1,7 +1,7 @@
 -- Lists of tokens without operators between parts: units, what they stand for, and the text of an opaque piece.
 -- Rule: ISO C, "Conditional inclusion"; Linux, include/linux/kconfig.h, for the IS_ names; opaque pieces are this
 -- project's.
-use Rattle.std.specs.Prelude.{ℕ, ◌++◌, Bool, true, false, not, ◌&&◌, ◌||◌, bytes_eq, codes, drop, Option, None, Some, List, [], ◌∷◌, if◌then◌else◌}
+use Rattle.std.specs.Prelude.{◌++◌, Bool, true, false, not, ◌&&◌, ◌||◌, bytes_eq, codes, drop, Option, None, Some, List, [], ◌∷◌, if◌then◌else◌}
 use Rattle.std.specs.List.{prefix_len}
 use Rattle.ut_text.specs.Bytes.{Bytes, space}
 use Rattle.cpp_read.specs.declared.token.Token.{Token}

@@ -1,6 +1,6 @@
 -- Tests of single tokens: signs, names, and tokens that stand alone.
 -- Rule: ISO C, "Lexical elements".
-use Rattle.std.specs.Prelude.{ℕ, Bool, true, false, ◌==◌, bytes_eq, codes, List, [], ◌∷◌}
+use Rattle.std.specs.Prelude.{Bool, true, false, ◌==◌, bytes_eq, codes, [], ◌∷◌}
 use Rattle.ut_text.specs.Bytes.{Bytes}
 use Rattle.cpp_read.specs.Characters.{apostrophe}
 use Rattle.cpp_read.specs.declared.token.Token.{Token}

@@ -1,7 +1,6 @@
 -- Bytes that may begin a splice, change the mode or end a line, and the reader that passes all others quickly.
 -- This project's own; no contract of a public call rests on it.
 use Rattle.std.specs.Prelude.{◌≡◌, ℕ, Bool, true, false, ◌==◌, ◌||◌, ◌++◌, List, [], ◌∷◌}
-use Rattle.ut_text.specs.Bytes.{Bytes}
 use Rattle.ut_text.specs.Bytes.{newline, carriage_return}
 use Rattle.cpp_read.specs.Characters.{quote, apostrophe, star, slash, backslash}
 use Rattle.cpp_read.specs.declared.cursor.PlacedByte.{PlacedByte}

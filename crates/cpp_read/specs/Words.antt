@@ -1,6 +1,6 @@
 -- The word that names a directive, and the name that stands after it.
 -- Rule: ISO C, "Preprocessing directives".
-use Rattle.std.specs.Prelude.{ℕ, Bool, false, bytes_eq, codes, take, drop, List, [], ◌∷◌, if◌then◌else◌}
+use Rattle.std.specs.Prelude.{Bool, false, bytes_eq, codes, take, drop, [], ◌∷◌, if◌then◌else◌}
 use Rattle.std.specs.List.{prefix_len}
 use Rattle.ut_text.specs.Bytes.{Bytes}
 use Rattle.cpp_read.specs.declared.words.Word.{Word}

@@ -34,4 +34,3 @@ pub use cpp_directives::{Cond, CppBad, Directive, Gives, What};
 pub use reader::{conditions_follow_rules, read_condition};
 pub use source::directives;
 pub use token::Token;
-

@@ -5,8 +5,7 @@ ghost use Rattle.cpp_read.specs.Tokens as spec;
 ghost use Rattle.cpp_read.specs.TokenSteps as steps;
 
 use crate::token::Token;
-use crate::uncommented::is_white;
-use crate::words::after_white;
+use crate::words::{after_white, is_white};
 use std::alloc::{AllocError, Global};
 use ut_text::{Text, begins_names, is_digit, is_name_byte, name_len};
 

@@ -3,13 +3,13 @@ ghost use Rattle.cpp_directives.specs.Limits.{most_bytes};
 ghost use Rattle.cpp_read.specs.Splices.{spliced_bytes};
 ghost use Rattle.cpp_read.specs.Comments.{uncommented};
 ghost use Rattle.cpp_read.specs.DirectiveLines.{bytes_of, marked};
-ghost use Rattle.cpp_read.specs.DirectiveLines as lines;
 ghost use Rattle.cpp_read.specs.LineSteps.{line_of, after_line, found_lines, Moves};
 ghost use Rattle.cpp_read.specs.Cursors.{Takes};
 ghost use Rattle.cpp_read.specs.declared.modes.Mode.TheVariants as modes;
 
 use crate::cursor::{Cursor, PlacedByte};
 use crate::modes::{Mode, is_steady, kept_of, mode_after};
+use crate::words::is_white;
 use std::alloc::AllocError;
 use std::marker::Model;
 
@@ -142,11 +142,4 @@ impl<'a> Uncommented<'a> {
         self.skip_line();
         Ok(Found::Other)
     }
-}
-
-/// White space in a line.
-pub fn is_white(byte: u8) -> bool
-    ensures { result ≡ lines.is_white byte }
-{
-    byte == b' ' || byte == b'\t' || byte == 11 || byte == 12 || byte == b'\r'
 }

@@ -4,7 +4,6 @@ ghost use Rattle.ut_text.specs.ByteClasses as classes;
 ghost use Rattle.cpp_read.specs.Words as spec;
 ghost use Rattle.cpp_read.specs.DirectiveLines as lines;
 
-use crate::uncommented::is_white;
 use ut_text::{begins_names, name_len};
 
 /// The word that names a directive.
@@ -68,6 +67,13 @@ fn macro_word(word: &[u8]) -> Word
     } else {
         Word::Other
     }
+}
+
+/// White space in a line.
+pub fn is_white(byte: u8) -> bool
+    ensures { result ≡ lines.is_white byte }
+{
+    byte == b' ' || byte == b'\t' || byte == 11 || byte == 12 || byte == b'\r'
 }
 
 /// How many bytes of white space stand at the front.
