@@ -1,6 +1,6 @@
 -- Laws of every grammar of lines, and of its readers.
-use Rattle.std.proofs.Common.{◌≡◌, ℕ, zero, suc, List, [], ◌∷◌, refl, sym, ap, subst}
-use Rattle.line_texts.specs.Grammar.{Says, IsFirstOutside}
+use Rattle.std.proofs.Common.{◌≡◌, ℕ, zero, suc, ◌+◌, ◌-◌, ◌<◌, List, [], ◌∷◌, refl, sym, ap, subst, arith}
+use Rattle.line_texts.specs.Grammar.{Says, IsFirstOutside, IsOutsideLine}
 
 -- a line leads from a state to one state at most, and a state says one thing at most
 pub record IsExact {X S A : Type 0} (Takes : S → X → List X → S → Type 0) (Ends : S → A → Type 0) : Type 0 where
@@ -32,21 +32,45 @@ outside_once Takes Ends e s (x ∷ xs) (suc n) zero (m, t, h) o = absurd (o m t)
 outside_once Takes Ends e s (x ∷ xs) (suc n) (suc k) (m, t, h) (i, u, o) =
     ap suc (outside_once Takes Ends e m xs n k h (subst (λ z. IsFirstOutside Takes Ends z xs k) (sym (e.leads s x xs m i t u)) o))
 
--- A reader keeps, in its loop, what the lines that are left mean for the whole text: what they say from the
--- state that it is in, and where they are outside.
+-- What a reader keeps in its loop: it began with the whole from a first state, is now in state s, before the line with
+-- this number, and what the rest says from there, or where it is outside, the whole does.
+pub record Continues {X S A : Type 0} (Takes : S → X → List X → S → Type 0) (Ends : S → A → Type 0) (first : S) (whole : List X) (s : S) (rest : List X) (number : ℕ) : Type 0 where
+  pub says : (a : A) → Says Takes Ends s rest a → Says Takes Ends first whole a
+  pub outside : (n : ℕ) → IsFirstOutside Takes Ends s rest n → IsFirstOutside Takes Ends first whole (number - 1 + n)
+  pub counted : 0 < number
 
--- a line was taken, so what the lines after it say, the whole says
-pub says_after : {X S A : Type 0} (Takes : S → X → List X → S → Type 0) (Ends : S → A → Type 0) (Whole : A → Type 0) (s next : S) (lines : List X) (x : X) (xs : List X) → lines ≡ x ∷ xs → Takes s x xs next → ((a : A) → Says Takes Ends s lines a → Whole a) → (a : A) → Says Takes Ends next xs a → Whole a
-says_after Takes Ends Whole s next lines x xs e t f a h = f a (subst (λ ls. Says Takes Ends s ls a) (sym e) (next, t, h))
+-- before the first line
+pub continues_first : {X S A : Type 0} (Takes : S → X → List X → S → Type 0) (Ends : S → A → Type 0) (first : S) (whole : List X) → Continues Takes Ends first whole first whole 1
+continues_first Takes Ends first whole = record {
+  says = λ a h. h;
+  outside = λ n h. subst (IsFirstOutside Takes Ends first whole) (omega arith) h;
+  counted = omega arith;
+}
 
--- and where the lines after it are outside, the whole is outside one line later
-pub outside_after : {X S A : Type 0} (Takes : S → X → List X → S → Type 0) (Ends : S → A → Type 0) (Whole : ℕ → Type 0) (s next : S) (lines : List X) (x : X) (xs : List X) → lines ≡ x ∷ xs → Takes s x xs next → ((n : ℕ) → IsFirstOutside Takes Ends s lines n → Whole n) → (n : ℕ) → IsFirstOutside Takes Ends next xs n → Whole (suc n)
-outside_after Takes Ends Whole s next lines x xs e t f n h = f (suc n) (subst (λ ls. IsFirstOutside Takes Ends s ls (suc n)) (sym e) (next, t, h))
+-- a line was taken
+pub continues_after : {X S A : Type 0} {Takes : S → X → List X → S → Type 0} {Ends : S → A → Type 0} {first : S} {whole : List X} {s : S} {rest : List X} {number : ℕ} → Continues Takes Ends first whole s rest number → (x : X) (xs : List X) (next : S) → rest ≡ x ∷ xs → Takes s x xs next → Continues Takes Ends first whole next xs (number + 1)
+continues_after {Takes = Takes} {Ends = Ends} {first = first} {whole = whole} {s = s} {number = number} c x xs next e t = record {
+  says = λ a h. c.says a (subst (λ ls. Says Takes Ends s ls a) (sym e) (next, t, h));
+  outside = λ n h.
+      let place : number - 1 + suc n ≡ number + 1 - 1 + n = omega (arith, c.counted) in
+      subst (IsFirstOutside Takes Ends first whole) place (c.outside (suc n) (subst (λ ls. IsFirstOutside Takes Ends s ls (suc n)) (sym e) (next, t, h)));
+  counted = omega arith;
+}
 
 -- the next line may not stand here
-pub outside_here : {X S A : Type 0} (Takes : S → X → List X → S → Type 0) (Ends : S → A → Type 0) (Whole : ℕ → Type 0) (s : S) (lines : List X) (x : X) (xs : List X) → lines ≡ x ∷ xs → ((next : S) → ¬ Takes s x xs next) → ((n : ℕ) → IsFirstOutside Takes Ends s lines n → Whole n) → Whole zero
-outside_here Takes Ends Whole s lines x xs e none f = f zero (subst (λ ls. IsFirstOutside Takes Ends s ls zero) (sym e) none)
+pub outside_here : {X S A : Type 0} {Takes : S → X → List X → S → Type 0} {Ends : S → A → Type 0} {first : S} {whole : List X} {s : S} {rest : List X} {number : ℕ} → Continues Takes Ends first whole s rest number → (x : X) (xs : List X) → rest ≡ x ∷ xs → ((next : S) → ¬ Takes s x xs next) → IsOutsideLine Takes Ends first whole number
+outside_here {Takes = Takes} {Ends = Ends} {first = first} {whole = whole} {s = s} {number = number} c x xs e none = (
+  c.counted,
+  subst (IsFirstOutside Takes Ends first whole) (omega arith) (c.outside zero (subst (λ ls. IsFirstOutside Takes Ends s ls zero) (sym e) none)),
+)
 
 -- no line is left, and the text may not end here
-pub outside_at_end : {X S A : Type 0} (Takes : S → X → List X → S → Type 0) (Ends : S → A → Type 0) (Whole : ℕ → Type 0) (s : S) (lines : List X) → lines ≡ [] → ((a : A) → ¬ Ends s a) → ((n : ℕ) → IsFirstOutside Takes Ends s lines n → Whole n) → Whole zero
-outside_at_end Takes Ends Whole s lines e none f = f zero (subst (λ ls. IsFirstOutside Takes Ends s ls zero) (sym e) none)
+pub outside_at_end : {X S A : Type 0} {Takes : S → X → List X → S → Type 0} {Ends : S → A → Type 0} {first : S} {whole : List X} {s : S} {rest : List X} {number : ℕ} → Continues Takes Ends first whole s rest number → rest ≡ [] → ((a : A) → ¬ Ends s a) → IsOutsideLine Takes Ends first whole number
+outside_at_end {Takes = Takes} {Ends = Ends} {first = first} {whole = whole} {s = s} {number = number} c e none = (
+  c.counted,
+  subst (IsFirstOutside Takes Ends first whole) (omega arith) (c.outside zero (subst (λ ls. IsFirstOutside Takes Ends s ls zero) (sym e) none)),
+)
+
+-- no line is left, and the text may end here
+pub says_at_end : {X S A : Type 0} {Takes : S → X → List X → S → Type 0} {Ends : S → A → Type 0} {first : S} {whole : List X} {s : S} {rest : List X} {number : ℕ} → Continues Takes Ends first whole s rest number → (a : A) → rest ≡ [] → Ends s a → Says Takes Ends first whole a
+says_at_end {Takes = Takes} {Ends = Ends} {s = s} c a e h = c.says a (subst (λ ls. Says Takes Ends s ls a) (sym e) h)

@@ -1,7 +1,7 @@
 -- The lines of a text that this project writes and reads: it is cut at newline bytes and at nothing else, so that, other
 -- than in Kconfig, Kbuild and C texts, a carriage return is a byte of its line. Bytes after the last newline are a line
 -- too. This project's rule.
-use Rattle.std.specs.Prelude.{◌≢◌, ℕ, ◌==◌, List, [], ◌∷◌, ◌++◌, if◌then◌else◌, All, codes}
+use Rattle.std.specs.Prelude.{◌≢◌, ◌==◌, List, [], ◌∷◌, ◌++◌, if◌then◌else◌, All, codes}
 use Rattle.ut_text.specs.Bytes.{Bytes, newline}
 use Rattle.ut_text.specs.Lines.{onto_first}
 

@@ -1,11 +1,10 @@
 -- Whole texts: what their lines say, and what their bytes are.
-use Rattle.std.proofs.Common.{◌≡◌, ◌≢◌, ℕ, ◌+◌, ◌-◌, ◌^◌, ◌<◌, ◌≤◌, List, [], ◌∷◌, ◌++◌, length, get_or, take, cond, true, false, Bool, inl, inr, refl, sym, ap, ◌∙◌, subst, arith, append_assoc}
-use Rattle.std.specs.Prelude.{◌⊎◌, All, codes, decimal}
+use Rattle.std.proofs.Common.{◌≡◌, ℕ, ◌+◌, ◌-◌, ◌^◌, ◌<◌, ◌≤◌, List, [], ◌∷◌, ◌++◌, length, get_or, take, cond, true, false, Bool, inl, inr, refl, sym, ap, ◌∙◌, subst, arith, append_assoc}
+use Rattle.std.specs.Prelude.{All, codes, decimal}
 use Rattle.std.specs.List.{flat_map, concat}
 use Rattle.std.proofs.lemmas.List.{append-nil, append_cancel_right, take_more, length-take-le}
 use Rattle.std.proofs.lemmas.List.Elements.{All-nil, All-cons, All-head, All-tail}
 use Rattle.ut_text.specs.Bytes.{Bytes}
-use Rattle.line_texts.specs.Grammar as grammar
 use Rattle.line_texts.specs.Grammar.{Says}
 use Rattle.line_texts.specs.Lines.{whole_lines, HasNoNewline}
 use Rattle.line_texts.proofs.GrammarLaws.{IsExact, says_once, never_both}
@@ -157,12 +156,6 @@ bad_is_oom bytes (Line number) outside n lines h =
 -- and says one list of lines
 pub text_once : (bytes : Bytes) (n : ℕ) (xs ys : List DerivationLine) → IsText bytes xs → IsTextOf n ys bytes → xs ≡ ys
 text_once bytes n xs ys h k = says_once Takes Ends text_exact at_start (whole_lines bytes) xs ys h (text_is_said bytes n ys k)
-
--- the line that is outside, counted from 1
-pub outside_at : (bytes : Bytes) (k number : ℕ) → k ≡ number → 0 < k → grammar.IsFirstOutside Takes Ends at_start (whole_lines bytes) (k - 1 + 0) → IsFirstOutside bytes number
-outside_at bytes k number same counted h =
-    let place : k - 1 + 0 ≡ number - 1 = omega arith in
-    (omega arith, subst (grammar.IsFirstOutside Takes Ends at_start (whole_lines bytes)) place h)
 
 -- a line that lacks its newline, or is no step, may not stand anywhere
 pub no_newline_no_step : (s : Progress) (whole : Bytes) (after : List Bytes) (next : Progress) → HasNoNewline whole → ¬ Takes s whole after next

@@ -2,7 +2,7 @@
 -- newline. N is its number, the L are the literals of its result, F is the clause that its chain begins with, each P a
 -- variable to resolve on and C the clause to resolve with. Numbers are decimal, without a leading zero, and below
 -- 2 ^ 64; variables count from 1. This project's rule.
-use Rattle.std.specs.Prelude.{◌≡◌, ◌⊎◌, ℕ, ◌+◌, ◌-◌, ◌<◌, ◌≤◌, ◌^◌, if◌then◌else◌, List, [], ◌∷◌, ◌++◌, length, All, codes, decimal}
+use Rattle.std.specs.Prelude.{◌≡◌, ◌⊎◌, ℕ, ◌+◌, ◌<◌, ◌≤◌, ◌^◌, if◌then◌else◌, List, [], ◌∷◌, ◌++◌, length, All, codes, decimal}
 use Rattle.std.specs.List.{flat_map}
 use Rattle.ut_text.specs.Bytes.{Bytes}
 use Rattle.line_texts.specs.Grammar as grammar
@@ -91,4 +91,4 @@ Ends s lines = lines ≡ s.lines
 
 -- the lines before this one, counted from 1, are a text that doesn't go on with this one
 abbrev pub IsFirstOutside : Bytes → ℕ → Type 0
-IsFirstOutside bytes number = (0 < number) × grammar.IsFirstOutside Takes Ends at_start (whole_lines bytes) (number - 1)
+IsFirstOutside bytes number = grammar.IsOutsideLine Takes Ends at_start (whole_lines bytes) number

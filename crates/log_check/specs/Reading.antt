@@ -1,5 +1,5 @@
 -- What is at the front of what is left of a step, and what is left after it. No public contract cites this module.
-use Rattle.std.specs.Prelude.{◌≡◌, ◌≢◌, ℕ, ◌<◌, ◌^◌, Bool, true, false, List, ◌∷◌, ◌++◌, All, codes, decimal}
+use Rattle.std.specs.Prelude.{◌≡◌, ◌≢◌, ℕ, ◌<◌, ◌^◌, Bool, true, false, List, ◌++◌, All, codes, decimal}
 use Rattle.std.specs.List.{flat_map}
 use Rattle.ut_text.specs.Bytes.{Bytes}
 use Rattle.ut_text.specs.Decimals.{begins_with_digit}

@@ -1,5 +1,4 @@
-ghost use Rattle.std.specs.Prelude.{◌≡◌, ◌<◌, ◌↔◌, All, IfNone, IfSome, IsTrue};
-ghost use Rattle.ut_logic.specs.Clauses.{IsOrdered};
+ghost use Rattle.std.specs.Prelude.{IfNone, IfSome};
 ghost use Rattle.log_check.specs.Reading.{IsHeadThen, IsLiteralThen, IsPairThen, IsSignThen};
 
 use crate::derivations::PivotOf;

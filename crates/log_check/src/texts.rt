@@ -1,4 +1,4 @@
-ghost use Rattle.std.specs.Prelude.{◌≡◌, ◌⊎◌, ◌↔◌, ◌+◌, ◌<◌, ◌≤◌, ℕ, length, Err, IfOk, IsTrue, MatchResult};
+ghost use Rattle.std.specs.Prelude.{◌≡◌, ◌↔◌, ◌≤◌, ℕ, length, Err, IfOk, IsTrue, MatchResult};
 ghost use Rattle.line_texts.specs.Grammar.{Says};
 ghost use Rattle.line_texts.specs.Lines.{whole_lines};
 ghost use Rattle.log_check.specs.DerivationText.{Ends, IsFirstOutside, IsTextOf, MayFollow, Takes, at_start};

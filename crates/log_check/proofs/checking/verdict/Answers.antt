@@ -1,4 +1,3 @@
-use Rattle.std.proofs.Common.{sym, ◌∙◌, ap, ◌++◌, ◌∷◌, []}
 use Rattle.log_check.proofs.Deriving.{right_more, wrong_here, not_right, results_more}
 use Rattle.log_check.proofs.checking.verdict.Goals as goal
 
