@@ -1,10 +1,10 @@
 use crate::{
-    Chain, Checked, Derivation, DerivationLine, PivotOf, TextLineBad, check, derivation_text,
-    read_derivation, resolve,
+    Checked, KnownClauses, TextLineBad, check, derivation_text, push_step, read_derivation,
+    read_step, resolve,
 };
 use std::alloc::{AllocError, Global};
 use std::test::Fail;
-use ut_logic::{Clause, Cnf, Lit, Sequence};
+use ut_logic::{Clause, Cnf, Lit};
 
 fn clause(alloc: Global, literals: &[i32]) -> Result<Option<Clause>, AllocError> {
     let mut lits = Vec::new(alloc);
@@ -26,35 +26,6 @@ fn form(alloc: Global, vars: u64, rows: &[&[i32]]) -> Result<Option<Cnf>, AllocE
         clauses.push(clause)?;
     }
     Ok(Cnf::try_new(vars, Vec::new(alloc), clauses))
-}
-
-/// A derivation of one line, whose result is empty.
-fn one_line(
-    alloc: Global,
-    first: u64,
-    pairs: &[(u64, u64)],
-) -> Result<Option<Derivation>, AllocError> {
-    let Some(result) = clause(alloc, &[])? else {
-        return Ok(None);
-    };
-    let mut items = Vec::new(alloc);
-    for (pivot, clause) in pairs {
-        items.push(PivotOf {
-            pivot: *pivot,
-            clause: *clause,
-        })?;
-    }
-    let mut lines = Vec::new(alloc);
-    lines.push(DerivationLine {
-        result,
-        chain: Chain {
-            first,
-            pairs: Sequence::from_vec(items),
-        },
-    })?;
-    Ok(Some(Derivation {
-        lines: Sequence::from_vec(lines),
-    }))
 }
 
 /// Whether the reader names this line of the text, or none where it is 0.
@@ -90,42 +61,75 @@ const WORKED: [&[i32]; 17] = [
     &[5],
 ];
 
+/// What the checker says of the derivation in this text, which is written again as it stands.
+fn checked(alloc: Global, text: &[u8]) -> Result<Checked, Fail> {
+    if text.len() > 16_777_216 {
+        return Err("length".into());
+    }
+    let cnf = form(alloc, 9, WORKED.as_slice())?.ok_or("form")?;
+    let d = read_derivation(alloc, text)?;
+    let written = derivation_text(alloc, &cnf, &d)?;
+    if written.as_slice() != text {
+        return Err("text".into());
+    }
+    Ok(check(alloc, &cnf, &d)?)
+}
+
+/// Whether the known clauses take the step, which is written again as it stands.
+fn takes(alloc: Global, known: &mut KnownClauses, step: &[u8]) -> Result<bool, Fail> {
+    let (number, line) = read_step(alloc, step)?.ok_or("step")?;
+    let mut text = Vec::new(alloc);
+    push_step(&mut text, number, &line)?;
+    if text.as_slice() != step {
+        return Err("text".into());
+    }
+    Ok(known.take(&line)?)
+}
+
+/// Whether the two clauses have a resolvent on variable 1.
+fn have_resolvent(alloc: Global, a: &[i32], b: &[i32]) -> Result<bool, Fail> {
+    let a = clause(alloc, a)?.ok_or("order")?;
+    let b = clause(alloc, b)?.ok_or("order")?;
+    Ok(resolve(alloc, &a, &b, 1)?.is_some())
+}
+
 #[test]
 fn the_worked_form_is_refuted_by_its_chain(rt: HostRuntime) -> Result<(), Fail> {
-    let alloc = rt.alloc();
-    let cnf = form(alloc, 9, WORKED.as_slice())?.ok_or("form")?;
-    let chain = [(8, 14), (1, 1), (2, 9), (6, 4), (4, 6), (5, 17)];
-    let d = one_line(alloc, 7, chain.as_slice())?.ok_or("line")?;
-    assert_eq!(rt; check(alloc, &cnf, &d)?, Checked::Accepted);
-    let text = derivation_text(alloc, &cnf, &d)?;
-    assert!(rt; text.as_slice() == b" step 18: 0 via 7 8 14 1 1 2 9 6 4 4 6 5 17\n".as_slice());
+    let right = b" step 18: 0 via 7 8 14 1 1 2 9 6 4 4 6 5 17\n";
+    assert_eq!(rt; checked(rt.alloc(), right)?, Checked::Accepted);
     Ok(())
 }
 
 #[test]
 fn a_wrong_pivot_and_no_line_are_bad(rt: HostRuntime) -> Result<(), Fail> {
+    let wrong = b" step 18: 0 via 7 8 14 2 1 2 9 6 4 4 6 5 17\n";
+    assert_eq!(rt; checked(rt.alloc(), wrong)?, Checked::Bad { line: 1 });
+    assert_eq!(rt; checked(rt.alloc(), b"")?, Checked::Bad { line: 0 });
+    Ok(())
+}
+
+#[test]
+fn a_derivation_is_followed_step_by_step(rt: HostRuntime) -> Result<(), Fail> {
     let alloc = rt.alloc();
     let cnf = form(alloc, 9, WORKED.as_slice())?.ok_or("form")?;
-    let chain = [(8, 14), (2, 1), (2, 9), (6, 4), (4, 6), (5, 17)];
-    let d = one_line(alloc, 7, chain.as_slice())?.ok_or("line")?;
-    assert_eq!(rt; check(alloc, &cnf, &d)?, Checked::Bad { line: 1 });
-    let none = Derivation {
-        lines: Sequence::new(alloc),
-    };
-    assert_eq!(rt; check(alloc, &cnf, &none)?, Checked::Bad { line: 0 });
+    let mut known = KnownClauses::new(alloc, cnf);
+    assert!(rt; !takes(alloc, &mut known, b" step 19: 0 via 18 5 17")?);
+    assert!(rt;
+        takes(
+            alloc,
+            &mut known,
+            b" step 18: -5 0 via 7 8 14 1 1 2 9 6 4 4 6"
+        )?
+    );
+    assert!(rt; takes(alloc, &mut known, b" step 19: 0 via 18 5 17")?);
     Ok(())
 }
 
 #[test]
 fn a_resolvent_has_no_variable_twice(rt: HostRuntime) -> Result<(), Fail> {
     let alloc = rt.alloc();
-    let a = clause(alloc, &[1, 2])?.ok_or("order")?;
-    let b = clause(alloc, &[-1, -2])?.ok_or("order")?;
-    let c = clause(alloc, &[-1, 3])?.ok_or("order")?;
-    let wanted = clause(alloc, &[2, 3])?.ok_or("order")?;
-    assert!(rt; resolve(alloc, &a, &b, 1)?.is_none());
-    let found = resolve(alloc, &a, &c, 1)?.ok_or("none")?;
-    assert!(rt; found.lits() == wanted.lits());
+    assert!(rt; !have_resolvent(alloc, &[1, 2], &[-1, -2])?);
+    assert!(rt; have_resolvent(alloc, &[1, 2], &[-1, 3])?);
     Ok(())
 }
 
