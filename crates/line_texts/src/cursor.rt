@@ -9,7 +9,8 @@ use ut_text::{name_len, split_number};
 
 /// The bytes of a line that are left to read, from the front.
 ///
-/// A call that doesn't find what it asks for leaves them as they were.
+/// A call that doesn't find what it asks for leaves them as they were. What a number, a name and a quoted text are is
+/// this project's rule.
 #[derive(Drop)]
 pub struct Cursor<'a> {
     rest: &'a [u8],

@@ -5,7 +5,8 @@ use memchr::memchr;
 
 /// The first line of a text, without its newline, and the text after that newline.
 ///
-/// A carriage return is a byte of the line. A last line may lack its newline, and nothing is left then.
+/// A carriage return is a byte of the line. A last line may lack its newline, and nothing is left then. This project's
+/// rule; lines of Kconfig, Kbuild and C texts are those of `ut_text`.
 pub fn split_line(text: &[u8]) -> (&[u8], &[u8])
     requires { 0 < length text.now }
     ensures lines { lines_of text.now ≡ result.0.now ∷ lines_of result.1.now }
@@ -22,7 +23,7 @@ pub fn split_line(text: &[u8]) -> (&[u8], &[u8])
 
 /// The first line of a text, without its newline, and the text after it.
 ///
-/// None where the text has no newline, so that it is empty or one line that lacks it.
+/// None where the text has no newline, so that it is empty or one line that lacks it. This project's rule.
 pub fn split_whole_line(text: &[u8]) -> Option<(&[u8], &[u8])>
     ensures found { IfSome result (λ parts. whole_lines text.now ≡ (parts.0.now ++ codes "\n") ∷ whole_lines parts.1.now) }
     ensures plain { IfSome result (λ parts. HasNoNewline parts.0.now) }

@@ -9,7 +9,7 @@ use ut_text::{is_digit, numeral};
 
 /// The bytes of a line that are left to read, from the end.
 ///
-/// A call that doesn't find what it asks for leaves them as they were.
+/// A call that doesn't find what it asks for leaves them as they were. What a number is is this project's rule.
 #[derive(Drop)]
 pub struct Tail<'a> {
     rest: &'a [u8],

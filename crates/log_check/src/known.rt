@@ -119,7 +119,8 @@ impl Results {
 
 /// The clauses of a clause form, then the results of the lines that were taken: those that the next line may cite.
 ///
-/// Clauses count from 1. Who follows a derivation line by line takes its lines one after another.
+/// Clauses count from 1. To follow a derivation line by line, take its lines one after another. Rule: resolution in
+/// propositional logic; numbers and chains are this project's own.
 #[derive(Drop)]
 pub struct KnownClauses {
     form: Cnf,
