@@ -4,49 +4,24 @@
 //! conditions hold the inherited ones, or the first bad line in reading order. The rules are those of the Linux
 //! document kconfig-language.
 //!
+//! The way of a text: `lines` (physical lines joined, help texts passed), `words` (cut, with the values of macros put
+//! in), `expressions`, `statements` (what a line says), `entries` (what that does), `texts` (each sourced text in the
+//! place of its line).
+//!
 //! A contract sees a text as its bytes and an entry with its expressions as plain data.
 #![tactic(auto)]
 
-mod attributes;
 mod bad;
-mod conditions;
-mod ended_entries;
-mod entry_lines;
-mod expression_ends;
-mod expression_laws;
-mod expression_lists;
-mod expression_reader;
-mod first_file;
-mod first_form;
-mod first_laws;
-mod first_lines;
-mod follows;
-mod help_texts;
-mod keywords;
-mod line_bad;
-mod line_parts;
-mod line_words;
+mod entries;
+mod expressions;
 mod lines;
-mod logical_lines;
-mod open_text;
-mod open_texts;
-mod operands;
-mod progress;
-mod roles;
-mod statement;
 mod statements;
-mod tree_file;
-mod values;
-mod word_ends;
-mod word_kinds;
-mod word_texts;
+mod texts;
 mod words;
 
 pub use bad::{KconfBad, SyntaxKind};
-pub use expression_laws::expressions_follow_the_grammar;
-pub use first_file::first_tree;
-pub use first_laws::first_bad_line_is_named;
+pub use expressions::laws::expressions_follow_the_grammar;
 pub use kconf_entries::{
     ChoiceEntry, ConfigEntry, DefaultOf, Entries, Expr, Kind, SelectOf, Side, Sign, Var,
 };
-pub use tree_file::read_tree;
+pub use texts::reader::read_tree;

@@ -11,8 +11,6 @@ mod expression_tests;
 #[cfg(test)]
 mod fault_tests;
 #[cfg(test)]
-mod first_form_tests;
-#[cfg(test)]
 mod place_tests;
 #[cfg(test)]
 mod readings;

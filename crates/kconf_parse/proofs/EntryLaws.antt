@@ -1,0 +1,2 @@
+-- Laws of entries.
+pub mod Entries

@@ -1,0 +1,3 @@
+-- Laws of statements.
+pub mod Parts
+pub mod Statements

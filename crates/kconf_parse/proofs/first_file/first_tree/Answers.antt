@@ -1,5 +1,0 @@
-use Rattle.kconf_parse.proofs.FirstFileLemmas.{refused_within}
-use Rattle.kconf_parse.proofs.first_file.first_tree.Goals as goal
-
-pub returns-clause-within : goal.returns-clause-within
-returns-clause-within g c = refused_within c.args.root.now c.args.meter.now c.take.new.meter c.in-Err.bad c.refused.result c.in-Err.ensures.within c.refused.ensures

@@ -1,8 +1,0 @@
--- The names so far, and those of the words that are left.
-use Rattle.std.proofs.Common.{◌≡◌, true, map, drop}
-use Rattle.kconf_parse.specs.FirstForm.{names_from}
-use Rattle.kconf_parse.specs.FirstWords.{with_names}
-use Rattle.kconf_parse.proofs.first_lines.names_of.Given as goal
-
-abbrev pub invariant-loop-word : goal.invariant-loop-word
-invariant-loop-word l = with_names l.names (names_from l.wants_name (map (λ t. t.now) (drop l.word-index l.words))) ≡ names_from true (map (λ t. t.now) l.words)

@@ -1,6 +1,0 @@
-use Rattle.std.proofs.Common.{refl}
-use Rattle.kconf_parse.proofs.LinePartLemmas.{expression_read}
-use Rattle.kconf_parse.proofs.line_parts.expression_at.Goals as goal
-
-pub returns-in-Ok : goal.returns-in-Ok
-returns-in-Ok c = let r = c.in-Ok.ensures.read in expression_read _ _ _ r.signs r.within r.is

@@ -1,9 +1,0 @@
-use Rattle.std.proofs.Common.{◌∙◌, refl}
-use Rattle.kconf_parse.proofs.LinesLemmas.{first_line, rest_shorter}
-use Rattle.kconf_parse.proofs.lines.split_line.Goals as goal
-
-pub returns-clause-lines : goal.returns-clause-lines
-returns-clause-lines c = first_line c.args.text.now c.requires ∙ rw (c.split_at.ensures.front, c.behind_end.ensures, c.split_at.ensures.back, c.line_len.ensures.value) refl
-
-pub returns-clause-shorter : goal.returns-clause-shorter
-returns-clause-shorter c = rw (c.behind_end.ensures, c.split_at.ensures.back, c.line_len.ensures.value) (rest_shorter c.args.text.now c.requires)

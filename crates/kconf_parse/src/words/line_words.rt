@@ -1,0 +1,56 @@
+use std::alloc::{AllocError, AllocFailed};
+use ut_logic::Sequence;
+
+/// How a word stands in its line.
+#[derive(Clone, Copy, Debug, PartialEq, Eq)]
+pub enum Form {
+    /// Without quote marks.
+    Bare,
+    /// Between quote marks.
+    Quoted,
+    /// A sign of an expression, a parenthesis, or any other byte.
+    Sign,
+}
+
+/// A word of a logical line, without quote marks and with the values of macros put in.
+#[derive(Debug, Drop)]
+pub struct LineWord {
+    pub form: Form,
+    /// The bytes as they stand in the file; a text is made where they are used as one.
+    pub text: Sequence<u8>,
+    /// Whether a macro call is left in it.
+    pub has_call: bool,
+}
+
+/// Why a line has no words.
+#[derive(Clone, Copy, Debug, PartialEq, Eq)]
+pub enum WordsBad {
+    /// A quoted word without its end.
+    Quote,
+    /// A macro call without its end.
+    Bracket,
+    /// There is not enough memory.
+    Oom,
+}
+
+impl From<AllocError> for WordsBad {
+    ghost use Rattle.std.specs.Prelude.{◌≡◌};
+    ghost use Rattle.kconf_parse.specs.declared.words.line_words.WordsBad.TheVariants.{Oom};
+
+    ghost from_gives = { λ _ e. e ≡ Oom };
+
+    fn from(_e: AllocError) -> WordsBad {
+        WordsBad::Oom
+    }
+}
+
+impl<T: Drop> From<AllocFailed<T>> for WordsBad {
+    ghost use Rattle.std.specs.Prelude.{◌≡◌};
+    ghost use Rattle.kconf_parse.specs.declared.words.line_words.WordsBad.TheVariants.{Oom};
+
+    ghost from_gives = { λ _ e. e ≡ Oom };
+
+    fn from(_e: AllocFailed<T>) -> WordsBad {
+        WordsBad::Oom
+    }
+}
