@@ -6,12 +6,6 @@ use Rattle.std.specs.declared.alloc.Global.{Global}
 use Rattle.cpp_directives.specs.declared.bad.CppBad.{CppBad}
 use Rattle.cpp_directives.specs.declared.bad.CppBad.TheVariants.{NotYet, Unbalanced, ElseTwice, Depth, TooMany, NoName, Condition, Unclosed, Oom}
 
--- what is read next, unless the first part is refused
-infixl 10 ◌>>=◌
-abbrev pub ◌>>=◌ : {A B : Type 0} → Result A CppBad → (A → Result B CppBad) → Result B CppBad
-(Ok x) >>= f = f x
-(Err e) >>= f = Err e
-
 -- a refusal is the one that reading gives, unless memory ran out
 abbrev pub Fails : {Y : Type 0} → CppBad → Result Y CppBad → Type 0
 Fails Oom read = Unit {0}
