@@ -1,6 +1,6 @@
 -- The text of a configuration: a line for each symbol that counts as bool or tristate, in order.
 -- Rule: the lines that Linux kbuild writes into a .config file for such symbols.
-use Rattle.std.specs.Prelude.{ℕ, ◌==◌, List, [], ◌++◌, codes, length, if◌then◌else◌}
+use Rattle.std.specs.Prelude.{ℕ, ◌==◌, [], ◌++◌, codes, length, if◌then◌else◌}
 use Rattle.std.specs.List.{flat_map, range_with_len}
 use Rattle.ut_text.specs.Bytes.{Bytes}
 use Rattle.kconf_tree.specs.declared.shape.Counts.{Counts}

@@ -1,38 +1,37 @@
-use crate::asking::{Ask, wrong};
-use std::alloc::AllocError;
+use crate::answers::completed;
+use std::test::Fail;
+use test_texts::check_lines;
 
-// What is known stays.
+/// What is known stays.
+const SYMBOLS: &str = r#"
+-- what is known stays, the rest gets its default, or n
+yyn 110 - - | config A; bool "a"; config B; bool "b" if A; config C; bool; default y => yyy,
+nnn 110 - - | config A; bool "a"; config B; bool "b" if A; config C; bool; default y => nny,
+yyn 000 - - | config A; bool "a"; config B; bool "b" if A; config C; bool; default y => nny,
+-- a select raises what is not known, and it comes after its selectors
+ny 01 - - | config A; tristate "a" if n; config B; bool "b"; config B; bool; select A => yy,
+-- a bool has no m
+ymn 110 - - | config A; bool "a"; modules; config B; tristate "b"; config C; bool "c" if B; config C; bool; default y if B => ymy,
+"#;
+
 #[test]
-fn symbols_are_completed(rt: HostRuntime) -> Result<(), AllocError> {
-    let rows = [
-        // what is known stays, the rest gets its default, or n
-        "yyy, yyn 110 - - Ap BpA Cdy",
-        "nny, nnn 110 - - Ap BpA Cdy",
-        "nny, yyn 000 - - Ap BpA Cdy",
-        // a select raises what is not known, and it comes after its selectors
-        "yy, ny 01 - - Atn Bp BsA",
-        // a bool has no m
-        "ymy, ymn 110 - - AM Bt CpB CdyB",
-    ];
-    let wrong = wrong(rt.alloc(), Ask::Completed, &rows)?;
-    assert!(rt; wrong.is_empty(), "{wrong}");
-    Ok(())
+fn symbols_are_completed(rt: HostRuntime) -> Result<(), Fail> {
+    check_lines(rt.alloc(), SYMBOLS, completed)
 }
 
-// The member that a choice picks.
+/// The member that a choice picks.
+const CHOICES: &str = r#"
+-- the first member, or the first default that can be, or none
+nn 00 n 0 | choice; bool "c"; config A; bool "a"; config B; bool "b"; endchoice => yn,y
+ny 11 y 1 | choice; bool "c"; config A; bool "a"; config B; bool "b"; endchoice => ny,y
+yn 00 y 0 | choice; bool "c"; optional; config A; bool "a"; config B; bool "b"; endchoice => nn,n
+nnn 000 n 0 | config A; bool "a"; choice; bool "c"; config B; bool "b" if A; config C; bool "c"; endchoice => nny,y
+nn 00 n 0 | choice; bool "c"; default B; config A; bool "a"; config B; bool "b"; endchoice => ny,y
+nn 00 n 0 | choice; bool "c"; default B; config A; bool "a"; config B; bool "b" if n; endchoice => yn,y
+nn 00 n 0 | choice; bool "c"; default B if n; config A; bool "a"; config B; bool "b"; endchoice => yn,y
+"#;
+
 #[test]
-fn choices_are_completed(rt: HostRuntime) -> Result<(), AllocError> {
-    let rows = [
-        // the first member, or the first default that can be, or none
-        "yn,y nn 00 n 0 Ak Bk x",
-        "ny,y ny 11 y 1 Ak Bk x",
-        "nn,n yn 00 y 0 Ak Bk z",
-        "nny,y nnn 000 n 0 Ap BkA Ck x",
-        "ny,y nn 00 n 0 Ak Bk oB",
-        "yn,y nn 00 n 0 Ak Bkn oB",
-        "yn,y nn 00 n 0 Ak Bk oBn",
-    ];
-    let wrong = wrong(rt.alloc(), Ask::Completed, &rows)?;
-    assert!(rt; wrong.is_empty(), "{wrong}");
-    Ok(())
+fn choices_are_completed(rt: HostRuntime) -> Result<(), Fail> {
+    check_lines(rt.alloc(), CHOICES, completed)
 }

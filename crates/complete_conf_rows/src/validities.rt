@@ -1,108 +1,104 @@
-use crate::asking::{Ask, wrong};
-use std::alloc::AllocError;
+use crate::answers::validity_of;
+use std::test::Fail;
+use test_texts::check_lines;
 
-// What a user sets, and what a select raises.
+/// What a user sets, and what a select raises.
+const PROMPTS: &str = r#"
+-- a prompt bounds what a user sets
+nn - - | config A; bool "a"; config B; bool "b" if A => y
+yn - - | config A; bool "a"; config B; bool "b" if A => y
+yy - - | config A; bool "a"; config B; bool "b" if A => y
+ny - - | config A; bool "a"; config B; bool "b" if A => n
+-- a select raises past the dependencies
+nyy - - | config A; bool "a"; config B; bool "b" if A; config C; bool "c"; config C; bool; select B => y
+nny - - | config A; bool "a"; config B; bool "b" if A; config C; bool "c"; config C; bool; select B => n
+yyn - - | config A; bool "a"; config B; bool "b" if A; config C; bool "c"; config C; bool; select B => y
+"#;
+
 #[test]
-fn prompts_and_selects(rt: HostRuntime) -> Result<(), AllocError> {
-    let rows = [
-        // a prompt bounds what a user sets
-        "y nn - - Ap BpA",
-        "y yn - - Ap BpA",
-        "y yy - - Ap BpA",
-        "n ny - - Ap BpA",
-        // a select raises past the dependencies
-        "y nyy - - Ap BpA Cp CsB",
-        "n nny - - Ap BpA Cp CsB",
-        "y yyn - - Ap BpA Cp CsB",
-    ];
-    let wrong = wrong(rt.alloc(), Ask::Valid, &rows)?;
-    assert!(rt; wrong.is_empty(), "{wrong}");
-    Ok(())
+fn prompts_and_selects(rt: HostRuntime) -> Result<(), Fail> {
+    check_lines(rt.alloc(), PROMPTS, validity_of)
 }
 
-// Which symbols can be m.
+/// Which symbols can be m.
+const THREE_VALUES: &str = r#"
+-- m needs the modules symbol, which is bool
+m - - | config A; tristate "a" => n
+y - - | config A; tristate "a" => y
+ymy - - | config A; bool "a"; modules; config B; tristate "b"; config C; bool "c" if B; config C; bool; default y if B => y
+ymn - - | config A; bool "a"; modules; config B; tristate "b"; config C; bool "c" if B; config C; bool; default y if B => y
+ymm - - | config A; bool "a"; modules; config B; tristate "b"; config C; bool "c" if B; config C; bool; default y if B => n
+nmy - - | config A; bool "a"; modules; config B; tristate "b"; config C; bool "c" if B; config C; bool; default y if B => n
+mnn - - | config A; bool "a"; modules; config B; tristate "b"; config C; bool "c" if B; config C; bool; default y if B => n
+-- a bare m is n without modules
+y - - | config A; tristate "a" if m => n
+ym - - | config A; bool "a"; modules; config B; tristate "b" if m => y
+yy - - | config A; bool "a"; modules; config B; tristate "b" if m => n
+"#;
+
 #[test]
-fn three_values(rt: HostRuntime) -> Result<(), AllocError> {
-    let rows = [
-        // m needs the modules symbol, which is bool
-        "n m - - At",
-        "y y - - At",
-        "y ymy - - AM Bt CpB CdyB",
-        "y ymn - - AM Bt CpB CdyB",
-        "n ymm - - AM Bt CpB CdyB",
-        "n nmy - - AM Bt CpB CdyB",
-        "n mnn - - AM Bt CpB CdyB",
-        // a bare m is n without modules
-        "n y - - Atm",
-        "y ym - - AM Btm",
-        "n yy - - AM Btm",
-    ];
-    let wrong = wrong(rt.alloc(), Ask::Valid, &rows)?;
-    assert!(rt; wrong.is_empty(), "{wrong}");
-    Ok(())
+fn three_values(rt: HostRuntime) -> Result<(), Fail> {
+    check_lines(rt.alloc(), THREE_VALUES, validity_of)
 }
 
-// The first default whose condition is not n.
+/// The first default whose condition is not n.
+const DEFAULTS: &str = r#"
+-- the default counts where nobody can set the symbol
+y - - | config A; bool; default y => y
+n - - | config A; bool; default y => n
+n - - | config A; bool "a"; config A; bool; default y => y
+yn - - | config A; bool "a"; config B; bool; default n if A; config B; bool; default y => y
+ny - - | config A; bool "a"; config B; bool; default n if A; config B; bool; default y => y
+yy - - | config A; bool "a"; config B; bool; default n if A; config B; bool; default y => n
+ym - - | config A; bool "a"; modules; config B; tristate "b" if n; config B; bool; default m => y
+yy - - | config A; bool "a"; modules; config B; tristate "b" if n; config B; bool; default m => n
+ny - - | config A; bool "a"; modules; config B; tristate "b" if n; config B; bool; default m => y
+"#;
+
 #[test]
-fn defaults(rt: HostRuntime) -> Result<(), AllocError> {
-    let rows = [
-        // the default counts where nobody can set the symbol
-        "y y - - Ady",
-        "n n - - Ady",
-        "y n - - Ap Ady",
-        "y yn - - Ap BdnA Bdy",
-        "y ny - - Ap BdnA Bdy",
-        "n yy - - Ap BdnA Bdy",
-        "y ym - - AM Btn Bdm",
-        "n yy - - AM Btn Bdm",
-        "y ny - - AM Btn Bdm",
-    ];
-    let wrong = wrong(rt.alloc(), Ask::Valid, &rows)?;
-    assert!(rt; wrong.is_empty(), "{wrong}");
-    Ok(())
+fn defaults(rt: HostRuntime) -> Result<(), Fail> {
+    check_lines(rt.alloc(), DEFAULTS, validity_of)
 }
 
-// What names and comparisons stand for.
+/// What names and comparisons stand for.
+const TYPES: &str = r#"
+-- other types have n and stand for n
+nn - - | config A; int "a" if n; config B; bool "b" if A => y
+yn - - | config A; int "a" if n; config B; bool "b" if A => n
+y - - | config A; prompt "a" => n
+-- undeclared names are n
+y - - | config A; bool "a" if Z => n
+y - - | config A; bool "a" if !Z => y
+-- comparisons of three values, and others
+yy - - | config A; bool "a"; config B; bool "b" if A = n => n
+ny - - | config A; bool "a"; config B; bool "b" if A != y => y
+yy - 1 | config A; bool "a"; config B; bool "b" if A = 5 => y
+yy - 0 | config A; bool "a"; config B; bool "b" if A = 5 => n
+"#;
+
 #[test]
-fn types_and_names(rt: HostRuntime) -> Result<(), AllocError> {
-    let rows = [
-        // other types have n and stand for n
-        "y nn - - Awn BpA",
-        "n yn - - Awn BpA",
-        "n y - - Au",
-        // undeclared names are n
-        "n y - - ApZ",
-        "y y - - ANZ",
-        // comparisons of three values, and others
-        "n yy - - Ap B=An",
-        "y ny - - Ap B!Ay",
-        "y yy - 1 Ap B=A5",
-        "n yy - 0 Ap B=A5",
-    ];
-    let wrong = wrong(rt.alloc(), Ask::Valid, &rows)?;
-    assert!(rt; wrong.is_empty(), "{wrong}");
-    Ok(())
+fn types_and_names(rt: HostRuntime) -> Result<(), Fail> {
+    check_lines(rt.alloc(), TYPES, validity_of)
 }
 
-// Exactly one member of those that can be y.
+/// Exactly one member of those that can be y.
+const CHOICES: &str = r#"
+yn y - | choice; bool "c"; config A; bool "a"; config B; bool "b"; endchoice => y
+yy y - | choice; bool "c"; config A; bool "a"; config B; bool "b"; endchoice => n
+nn y - | choice; bool "c"; config A; bool "a"; config B; bool "b"; endchoice => n
+nn n - | choice; bool "c"; config A; bool "a"; config B; bool "b"; endchoice => n
+mn y - | choice; bool "c"; config A; bool "a"; config B; bool "b"; endchoice => n
+nn n - | choice; bool "c"; optional; config A; bool "a"; config B; bool "b"; endchoice => y
+yn n - | choice; bool "c"; optional; config A; bool "a"; config B; bool "b"; endchoice => n
+nn m - | choice; bool "c"; optional; config A; bool "a"; config B; bool "b"; endchoice => n
+nny y - | config A; bool "a"; choice; bool "c"; config B; bool "b" if A; config C; bool "c"; endchoice => y
+nyn y - | config A; bool "a"; choice; bool "c"; config B; bool "b" if A; config C; bool "c"; endchoice => n
+n y - | choice; bool "c"; config A; bool "a" if n; endchoice => y
+n n - | choice; bool "c" if n; config A; bool "a"; endchoice => y
+y y - | choice; bool "c" if n; config A; bool "a"; endchoice => n
+"#;
+
 #[test]
-fn choices(rt: HostRuntime) -> Result<(), AllocError> {
-    let rows = [
-        "y yn y - Ak Bk x",
-        "n yy y - Ak Bk x",
-        "n nn y - Ak Bk x",
-        "n nn n - Ak Bk x",
-        "n mn y - Ak Bk x",
-        "y nn n - Ak Bk z",
-        "n yn n - Ak Bk z",
-        "n nn m - Ak Bk z",
-        "y nny y - Ap BkA Ck x",
-        "n nyn y - Ap BkA Ck x",
-        "y n y - Akn x",
-        "y n n - Ak xn",
-        "n y y - Ak xn",
-    ];
-    let wrong = wrong(rt.alloc(), Ask::Valid, &rows)?;
-    assert!(rt; wrong.is_empty(), "{wrong}");
-    Ok(())
+fn choices(rt: HostRuntime) -> Result<(), Fail> {
+    check_lines(rt.alloc(), CHOICES, validity_of)
 }

@@ -44,7 +44,6 @@ a #if 1\n =>
 #[test]
 fn lines_and_comments(rt: HostRuntime) -> Result<(), Fail> {
     check_lines(
-        &rt,
         rt.alloc(),
         LINES,
         |alloc, text| outcome(alloc, text.as_bytes()),
@@ -97,7 +96,7 @@ A /* b */ // c => A
 
 #[test]
 fn conditions(rt: HostRuntime) -> Result<(), Fail> {
-    check_lines(&rt, rt.alloc(), CONDITIONS, condition_of)
+    check_lines(rt.alloc(), CONDITIONS, condition_of)
 }
 
 /// Texts at the limits: a front, a part, how often the part stands there, and an end.
@@ -113,7 +112,7 @@ const LIMITS: &str = r#"#if |!|201|A\n => condition 1
 
 #[test]
 fn limits(rt: HostRuntime) -> Result<(), Fail> {
-    check_lines(&rt, rt.alloc(), LIMITS, |alloc, row| {
+    check_lines(rt.alloc(), LIMITS, |alloc, row| {
         outcome(alloc, repeated(alloc, row)?.as_bytes())
     })
 }

@@ -50,5 +50,5 @@ yes (!y2|(y0|(!y0&y1))) (!(y0|(!y0&y1))|y2)
 
 #[test]
 fn bool_symbols_hold_what_their_properties_ask(rt: HostRuntime) -> Result<(), Fail> {
-    check_blocks(&rt, rt.alloc(), BOOLS, held_of)
+    check_blocks(rt.alloc(), BOOLS, held_of)
 }

@@ -28,5 +28,5 @@ A != m => !((y1|m1)&!y1) !((y1|m1)&!y1)
 fn conditions_have_two_formulas(rt: HostRuntime) -> Result<(), Fail> {
     let tree = tree_of(rt.alloc(), TREE)?;
     let answer = |alloc: Global, condition: &str| formulas_of(alloc, &tree, condition);
-    check_lines(&rt, rt.alloc(), CONDITIONS, answer)
+    check_lines(rt.alloc(), CONDITIONS, answer)
 }

@@ -47,8 +47,8 @@ yes yes yes
 
 #[test]
 fn undeclared_names_are_n_or_free(rt: HostRuntime) -> Result<(), Fail> {
-    check_blocks(&rt, rt.alloc(), FIXED, held_of)?;
-    check_blocks(&rt, rt.alloc(), FREE, held_free_of)
+    check_blocks(rt.alloc(), FIXED, held_of)?;
+    check_blocks(rt.alloc(), FREE, held_free_of)
 }
 
 /// Conditions of declared and undeclared names.
@@ -63,5 +63,5 @@ fn a_condition_names_what_is_free(rt: HostRuntime) -> Result<(), Fail> {
     let text = "config A\n bool \"a\" if Z\nconfig B\n bool \"b\" if Q";
     let tree = tree_of(rt.alloc(), text)?;
     let answer = |alloc: Global, condition: &str| free_formula_of(alloc, &tree, condition);
-    check_lines(&rt, rt.alloc(), CONDITIONS, answer)
+    check_lines(rt.alloc(), CONDITIONS, answer)
 }

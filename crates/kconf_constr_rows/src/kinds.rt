@@ -46,7 +46,7 @@ yes !y2 yes
 
 #[test]
 fn tristate_symbols_hold_both_values(rt: HostRuntime) -> Result<(), Fail> {
-    check_blocks(&rt, rt.alloc(), TRISTATES, held_of)
+    check_blocks(rt.alloc(), TRISTATES, held_of)
 }
 
 /// In mode y one visible member is y; an optional choice may have mode n.
@@ -90,5 +90,5 @@ yes yes yes
 
 #[test]
 fn a_choice_holds_what_its_members_do(rt: HostRuntime) -> Result<(), Fail> {
-    check_blocks(&rt, rt.alloc(), CHOICES, held_of)
+    check_blocks(rt.alloc(), CHOICES, held_of)
 }

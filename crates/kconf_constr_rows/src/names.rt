@@ -50,5 +50,5 @@ s1:s0:
 
 #[test]
 fn facts_name_what_their_nodes_refer_to(rt: HostRuntime) -> Result<(), Fail> {
-    check_blocks(&rt, rt.alloc(), NAMES, named_of)
+    check_blocks(rt.alloc(), NAMES, named_of)
 }

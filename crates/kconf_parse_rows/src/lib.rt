@@ -5,18 +5,18 @@
 #![tactic(auto)]
 
 #[cfg(test)]
-mod entry_tests;
+mod entries;
 #[cfg(test)]
-mod expression_tests;
+mod expressions;
 #[cfg(test)]
-mod fault_tests;
+mod faults;
 #[cfg(test)]
-mod place_tests;
+mod places;
 #[cfg(test)]
 mod readings;
 #[cfg(test)]
-mod shown;
+mod sources;
 #[cfg(test)]
-mod source_tests;
+mod words;
 #[cfg(test)]
-mod word_tests;
+mod written;

@@ -1,9 +1,11 @@
-use crate::shown::{push_entries, refusal_text};
-use kconf_parse::{Var, read_tree};
+//! What reading Kconfig texts gives, in one text.
+
+use crate::written::{entries_text, refusal_text};
+use kconf_parse::{Entries, KconfBad, Var, read_tree};
 use std::alloc::Global;
-use std::process::Abort;
 use std::test::Fail;
-use ut_base::{MemFile, MemFiles, Meter, Name};
+use test_texts::files_of;
+use ut_base::{Meter, Name};
 use ut_logic::Text;
 
 /// A value that is handed in.
@@ -22,58 +24,49 @@ pub fn vars_of(alloc: Global, pairs: &[(&str, &str)]) -> Result<Vec<Var>, Fail> 
     Ok(vars)
 }
 
-fn mem_file(alloc: Global, name: &str, text: &str) -> Result<MemFile, Fail> {
-    let name = Name::new(alloc, name)?.ok_or("a name")?;
-    let bytes = Vec::from_slice(alloc, text.as_bytes())?;
-    Ok(MemFile { name, bytes })
-}
-
-fn mem_files(alloc: Global, texts: &[(&str, &str)], fails: &[u64]) -> Result<MemFiles, Fail> {
-    let mut list = Vec::new(alloc);
-    for (name, text) in texts {
-        list.push(mem_file(alloc, *name, *text)?)?;
-    }
-    Ok(MemFiles::new(alloc, list, Vec::from_slice(alloc, fails)?)?)
-}
-
-/// What reading the text `Kconfig` among these gives: the entries on one line, or the refusal.
-pub fn told(alloc: Global, texts: &[(&str, &str)], vars: &[Var]) -> Result<Vec<u8>, Fail> {
-    told_where_reads_fail(alloc, texts, vars, &[])
-}
-
-/// The same, where the reads with these numbers, counted from 1, fail.
-pub fn told_where_reads_fail(
+/// What the text `Kconfig` among these is read as.
+fn read(
     alloc: Global,
     texts: &[(&str, &str)],
     vars: &[Var],
     fails: &[u64],
-) -> Result<Vec<u8>, Fail> {
-    let mut files = mem_files(alloc, texts, fails)?;
+) -> Result<Result<Entries, KconfBad>, Fail> {
+    let mut files = files_of(alloc, texts, fails)?;
     let root = Name::new(alloc, "Kconfig")?.ok_or("a name")?;
     let mut meter = Meter::new();
-    let mut shown = Vec::new(alloc);
-    match read_tree(alloc, &mut files, &root, vars, &mut meter) {
-        Ok(entries) => push_entries(alloc, &mut shown, &entries)?,
-        Err(bad) => shown.extend_from_slice(refusal_text(alloc, &bad)?.as_bytes())?,
-    }
-    Ok(shown)
+    Ok(read_tree(alloc, &mut files, &root, vars, &mut meter))
 }
 
-/// Each text, with what reading it alone gives where these values are handed in.
-pub fn check_with_vars(
-    rt: &impl Abort,
+/// What reading the text `Kconfig` among these gives, where the reads with these numbers, counted from 1, fail: the
+/// entries with `; ` between, or the refusal.
+pub fn read_among(
     alloc: Global,
+    texts: &[(&str, &str)],
     vars: &[Var],
-    rows: &[(&str, &str)],
-) -> Result<(), Fail> {
-    for (text, want) in rows {
-        let shown = told(alloc, &[("Kconfig", *text)], vars)?;
-        assert!(rt; shown.as_slice() == want.as_bytes(), "{text}");
+    fails: &[u64],
+) -> Result<String, Fail> {
+    match read(alloc, texts, vars, fails)? {
+        Ok(entries) => Ok(entries_text(alloc, &entries, "; ")?),
+        Err(bad) => Ok(refusal_text(alloc, &bad)?),
     }
-    Ok(())
 }
 
-/// Each text, with what reading it alone gives.
-pub fn check_texts(rt: &impl Abort, alloc: Global, rows: &[(&str, &str)]) -> Result<(), Fail> {
-    check_with_vars(rt, alloc, &[], rows)
+/// What reading a text alone gives where these values are handed in.
+pub fn read_with(alloc: Global, text: &str, vars: &[Var]) -> Result<String, Fail> {
+    read_among(alloc, &[("Kconfig", text)], vars, &[])
+}
+
+/// What reading a text alone gives.
+pub fn read_alone(alloc: Global, text: &str) -> Result<String, Fail> {
+    read_with(alloc, text, &[])
+}
+
+/// The entries of a text alone, a line for each.
+pub fn read_lines(alloc: Global, text: &str) -> Result<String, Fail> {
+    let entries = read(alloc, &[("Kconfig", text)], &[], &[])??;
+    let mut lines = entries_text(alloc, &entries, "\n")?;
+    if !lines.is_empty() {
+        lines.push('\n')?;
+    }
+    Ok(lines)
 }

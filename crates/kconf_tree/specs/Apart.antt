@@ -1,5 +1,5 @@
 -- Lists of which no two elements are equal, and the names of symbols. This project's rule.
-use Rattle.std.specs.Prelude.{◌≡◌, ℕ, Bool, false, List, [], ◌∷◌, map}
+use Rattle.std.specs.Prelude.{◌≡◌, Bool, false, List, [], ◌∷◌, map}
 use Rattle.std.specs.List.{list_any}
 use Rattle.ut_text.specs.Bytes.{Bytes}
 use Rattle.kconf_tree.specs.declared.shape.Symbol.{Symbol}

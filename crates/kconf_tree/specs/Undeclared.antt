@@ -1,7 +1,7 @@
 -- The undeclared names of a tree's three-valued expressions: names, and the sides of comparisons of two of
 -- the three values. What stands in outer conditions alone doesn't count.
 -- Rule: this project's own.
-use Rattle.std.specs.Prelude.{◌↔◌, ℕ, List, [], ◌∷◌, ◌++◌, Contains, if◌then◌else◌, is_some}
+use Rattle.std.specs.Prelude.{◌↔◌, List, [], ◌∷◌, ◌++◌, Contains, if◌then◌else◌, is_some}
 use Rattle.std.specs.List.{flat_map}
 use Rattle.std.specs.List.Sorted.{IsStrictlySortedBy}
 use Rattle.ut_text.specs.Bytes.{Bytes}

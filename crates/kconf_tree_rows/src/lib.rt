@@ -1,13 +1,13 @@
 //! Worked rows: small trees, each with what the rules of references make of it.
 //!
-//! The crate has tests alone. A row is a tree in the notation of `kconf_notation`, and its order, its cycle or another answer, worked
-//! out by hand.
+//! The crate has tests alone. A row is a Kconfig text, with `; ` for a line's end, and the order, the cycle or another
+//! answer of its tree, worked out by hand.
 #![tactic(auto)]
 
 #[cfg(test)]
 mod accessors;
 #[cfg(test)]
-mod asking;
+mod answers;
 #[cfg(test)]
 mod choices;
 #[cfg(test)]

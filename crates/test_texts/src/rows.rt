@@ -1,16 +1,14 @@
 use crate::escapes::unescaped;
 use std::alloc::Global;
-use std::process::Abort;
 use std::test::Fail;
 
-/// Asks for the answer to each row of a table of lines, and ends the process at the first that is another one.
+/// Asks for the answer to each row of a table of lines, up to the first that is another one.
 ///
 /// A row is what is given, `=>` and what is wanted, with one blank on either side of `=>`; the blank after it is
 /// left out where nothing is wanted. In both parts `\n`, `\t`, `\r`, `\0` and `\\` are taken as in Rust. Empty
-/// lines and lines that begin with `-- ` are no rows. An error is that of the answer, a line without `=>`, or want of
-/// memory.
-pub fn check_lines<R: Abort, F: Fn(Global, &str) -> Result<String, Fail> + Drop>(
-    rt: &R,
+/// lines and lines that begin with `-- ` are no rows. An error is that of the answer, a row whose answer is another one (with both), a
+/// line without `=>`, or want of memory.
+pub fn check_lines<F: Fn(Global, &str) -> Result<String, Fail> + Drop>(
     alloc: Global,
     table: &str,
     answer: F,
@@ -19,7 +17,7 @@ pub fn check_lines<R: Abort, F: Fn(Global, &str) -> Result<String, Fail> + Drop>
 {
     for row in table.split('\n') {
         if is_row(row) {
-            check_line(rt, alloc, row, &answer)?;
+            check_line(alloc, row, &answer)?;
         }
     }
     Ok(())
@@ -31,8 +29,7 @@ fn is_row(line: &str) -> bool {
 }
 
 /// A row of one line.
-fn check_line<R: Abort, F: Fn(Global, &str) -> Result<String, Fail> + Drop>(
-    rt: &R,
+fn check_line<F: Fn(Global, &str) -> Result<String, Fail> + Drop>(
     alloc: Global,
     row: &str,
     answer: &F,
@@ -43,16 +40,18 @@ fn check_line<R: Abort, F: Fn(Global, &str) -> Result<String, Fail> + Drop>(
     let given = unescaped(alloc, given)?;
     let wanted = unescaped(alloc, wanted.strip_prefix(' ').unwrap_or(wanted))?;
     let found = answer(alloc, given.as_str())?;
-    assert!(rt; found.as_str() == wanted.as_str(), "{row}: {found}");
+    if found.as_str() != wanted.as_str() {
+        return Err(Fail::new(format_args!("{row}: {found}")));
+    }
     Ok(())
 }
 
-/// Asks for the answer to each row of a table of blocks, and ends the process at the first that is another one.
+/// Asks for the answer to each row of a table of blocks, up to the first that is another one.
 ///
 /// Between two rows stands a line `--`. A row is the lines that are given, a line `=>`, and the lines that are wanted,
-/// as they stand, with a newline after each. An error is that of the answer, a row without `=>`, or want of memory.
-pub fn check_blocks<R: Abort, F: Fn(Global, &str) -> Result<String, Fail> + Drop>(
-    rt: &R,
+/// as they stand, with a newline after each. An error is that of the answer, a row whose answer is another one (with both),
+/// a row without `=>`, or want of memory.
+pub fn check_blocks<F: Fn(Global, &str) -> Result<String, Fail> + Drop>(
     alloc: Global,
     table: &str,
     answer: F,
@@ -60,14 +59,13 @@ pub fn check_blocks<R: Abort, F: Fn(Global, &str) -> Result<String, Fail> + Drop
     requires { F.IsAlwaysCallable answer }
 {
     for row in table.split("--\n") {
-        check_block(rt, alloc, row, &answer)?;
+        check_block(alloc, row, &answer)?;
     }
     Ok(())
 }
 
 /// A row of several lines.
-fn check_block<R: Abort, F: Fn(Global, &str) -> Result<String, Fail> + Drop>(
-    rt: &R,
+fn check_block<F: Fn(Global, &str) -> Result<String, Fail> + Drop>(
     alloc: Global,
     row: &str,
     answer: &F,
@@ -76,6 +74,8 @@ fn check_block<R: Abort, F: Fn(Global, &str) -> Result<String, Fail> + Drop>(
 {
     let (given, wanted) = row.split_once("=>\n").ok_or("a row without =>")?;
     let found = answer(alloc, given)?;
-    assert!(rt; found.as_str() == wanted, "{row}: {found}");
+    if found.as_str() != wanted {
+        return Err(Fail::new(format_args!("{row}: {found}")));
+    }
     Ok(())
 }

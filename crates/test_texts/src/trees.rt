@@ -6,9 +6,11 @@ use std::alloc::Global;
 use std::test::Fail;
 use ut_base::{Meter, Name};
 
-/// The entries of a Kconfig text. An error is a text that is refused, or want of memory.
+/// The entries of a Kconfig text, in which `; ` stands for a line's end too, so that a text can stand in one line of a
+/// table. An error is a text that is refused, or want of memory.
 pub fn entries_of(alloc: Global, text: &str) -> Result<Entries, Fail> {
-    let mut files = files_of(alloc, &[("Kconfig", text)], &[])?;
+    let lines = text.replace(alloc, "; ", "\n")?;
+    let mut files = files_of(alloc, &[("Kconfig", lines.as_str())], &[])?;
     let root = Name::new(alloc, "Kconfig")?.ok_or("a name")?;
     let mut meter = Meter::new();
     Ok(read_tree(alloc, &mut files, &root, &[], &mut meter)?)

@@ -12,4 +12,3 @@ pub fn texts_are_read()
     ensures repeated { first_directives_of (codes "#ifdef CONFIG_A\n#ifdef CONFIG_A\n#endif\n#endif\n") ≡ Ok repeated }
     ensures implied { first_directives_of (codes "#ifdef CONFIG_B\n#ifdef CONFIG_A\n#endif\n#endif\n") ≡ Ok implied }
 {}
-

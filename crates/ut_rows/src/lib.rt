@@ -10,10 +10,14 @@ mod laws;
 pub use laws::texts_are_read;
 
 #[cfg(test)]
-mod first_kconfig_tests;
+mod cases;
 #[cfg(test)]
-mod first_source_tests;
+mod first_kconfig;
 #[cfg(test)]
-mod rows;
+mod first_source;
 #[cfg(test)]
-mod tests;
+mod refusals;
+#[cfg(test)]
+mod runs;
+#[cfg(test)]
+mod texts;

@@ -1,4 +1,4 @@
-use Rattle.std.proofs.Common.{◌≡◌, ℕ, map, ap, sym, ◌∙◌}
+use Rattle.std.proofs.Common.{ℕ, map, ap, sym, ◌∙◌}
 use Rattle.std.proofs.lemmas.Simd.{map-map}
 use Rattle.kconf_tree.specs.Shape.{Selecting, selecting_of}
 use Rattle.kconf_tree.specs.Value.{greatest}

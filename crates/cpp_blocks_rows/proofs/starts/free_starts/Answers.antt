@@ -1,7 +1,7 @@
 use Rattle.std.proofs.Common.{sym, subst, ◌∙◌, arith}
 use Rattle.cpp_blocks.specs.Facts.{AreStarts}
 use Rattle.cpp_blocks.proofs.StartLaws.{free_push}
-use Rattle.cpp_blocks_rows.proofs.tests.free_starts.Goals as goal
+use Rattle.cpp_blocks_rows.proofs.starts.free_starts.Goals as goal
 
 pub loop-place-preserved : goal.loop-place-preserved
 loop-place-preserved c = (

@@ -1,63 +1,43 @@
-use crate::rows::files;
 use kconf_entries::Expr;
 use std::alloc::Global;
-use std::process::Abort;
 use std::test::Fail;
+use test_texts::{check_lines, files_of};
 use undertaker::{KconfigBad, first_tree};
-use ut_base::{Limit, MemFiles, Meter, Name};
+use ut_base::{Limit, Meter, Name};
 use ut_logic::Trit;
 
-fn files_of(alloc: Global, text: &str, fails: Vec<u64>) -> Result<MemFiles, Fail> {
-    files(alloc, &[("Kconfig", text)], fails)
-}
-
 /// The line of a `NotYet`, or 0 where the text is of the form.
-fn refused(alloc: Global, text: &str) -> Result<u32, Fail> {
-    let mut files = files_of(alloc, text, Vec::new(alloc))?;
+fn refused(alloc: Global, text: &str) -> Result<String, Fail> {
+    let mut files = files_of(alloc, &[("Kconfig", text)], &[])?;
     let root = Name::new(alloc, "Kconfig")?.ok_or("a name")?;
     let mut meter = Meter::new();
     match first_tree(alloc, &mut files, &root, &mut meter) {
-        Ok(_) => Ok(0),
-        Err(KconfigBad::NotYet { line, .. }) => Ok(line),
-        Err(_) => Err(Fail::from("another refusal")),
+        Ok(_) => Ok(String::from_str(alloc, "0")?),
+        Err(KconfigBad::NotYet { line, .. }) => Ok(format!(in alloc; "{line}")?),
+        Err(bad) => Err(Fail::from(bad)),
     }
 }
 
-/// Each text, with the line that is refused.
-fn check_lines(rt: &impl Abort, alloc: Global, rows: &[(&str, u32)]) -> Result<(), Fail> {
-    for (text, want) in rows {
-        let line = refused(alloc, *text)?;
-        assert!(rt; line == *want, "{line} {want}");
-    }
-    Ok(())
-}
+const TEXTS: &str = r#"
+ => 0
+config A\n\tbool "a"\nconfig B\n\tbool "b"\n\tdepends on A\n => 0
+config A\r\n\tbool "a" => 0
+config A\n\ttristate "a"\n => 2
+config A\n\tbool "a"\nconfig B\n => 3
+config A\n => 1
+\n => 1
+config a\n\tbool "a"\n => 1
+config A\n\tbool "a"\nconfig A\n => 3
+config A\n\tbool "a"\n\tdepends on A\n => 3
+config A\n\tbool "a"\n\tdepends on B\n => 3
+config A\n\tbool "a"\nconfig B\n\tbool "b"\n\tdepends on A &&\n => 5
+config A\n\tbool "a$"\n => 2
+config A\n\tbool "a" \n => 2
+"#;
 
 #[test]
 fn texts_of_the_first_form(rt: HostRuntime) -> Result<(), Fail> {
-    let alloc = rt.alloc();
-    let rows = [
-        ("", 0),
-        (
-            "config A\n\tbool \"a\"\nconfig B\n\tbool \"b\"\n\tdepends on A\n",
-            0,
-        ),
-        ("config A\r\n\tbool \"a\"", 0),
-        ("config A\n\ttristate \"a\"\n", 2),
-        ("config A\n\tbool \"a\"\nconfig B\n", 3),
-        ("config A\n", 1),
-        ("\n", 1),
-        ("config a\n\tbool \"a\"\n", 1),
-        ("config A\n\tbool \"a\"\nconfig A\n", 3),
-        ("config A\n\tbool \"a\"\n\tdepends on A\n", 3),
-        ("config A\n\tbool \"a\"\n\tdepends on B\n", 3),
-        (
-            "config A\n\tbool \"a\"\nconfig B\n\tbool \"b\"\n\tdepends on A &&\n",
-            5,
-        ),
-        ("config A\n\tbool \"a$\"\n", 2),
-        ("config A\n\tbool \"a\" \n", 2),
-    ];
-    check_lines(&rt, alloc, rows.as_slice())
+    check_lines(rt.alloc(), TEXTS, refused)
 }
 
 #[test]
@@ -65,7 +45,7 @@ fn entries_and_faults(rt: HostRuntime) -> Result<(), Fail> {
     let alloc = rt.alloc();
     let text =
         "config A\n\tbool \"\"\nconfig B\n\tbool \"b\"\n\tdepends on A\nconfig C\n\tbool \"c\"\n\tdepends on A && B\n\tdepends on A\n";
-    let mut files = files_of(alloc, text, vec![in alloc; 2]?)?;
+    let mut files = files_of(alloc, &[("Kconfig", text)], &[2])?;
     let root = Name::new(alloc, "Kconfig")?.ok_or("a name")?;
     let absent = Name::new(alloc, "Konfig")?.ok_or("a name")?;
     let mut meter = Meter::new();
@@ -84,7 +64,7 @@ fn entries_and_faults(rt: HostRuntime) -> Result<(), Fail> {
     let missing = first_tree(alloc, &mut files, &absent, &mut meter);
     assert!(rt; matches!(missing, Err(KconfigBad::Missing { .. })));
     let long = "x".repeat(alloc, 16_777_217)?;
-    let mut files = files_of(alloc, &long, Vec::new(alloc))?;
+    let mut files = files_of(alloc, &[("Kconfig", &long)], &[])?;
     let refusal = first_tree(alloc, &mut files, &root, &mut meter);
     assert!(rt;
         matches!(
