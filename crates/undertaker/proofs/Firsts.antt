@@ -17,7 +17,7 @@ use Rattle.undertaker.specs.FirstKconfig.Form.{Reading, start, is_declared, is_e
 use Rattle.undertaker.specs.FirstEntries.{AreFirst}
 use Rattle.undertaker.proofs.Bools.{and_left, and_right, and_both, or_left_false}
 
--- where the reader stands, behind the entries of these names
+-- where the reader stands, after the entries of these names
 abbrev StandsAt : List (List ℕ) → List (List ℕ) → Place → Type 0
 StandsAt before declared Start = declared ≡ before
 StandsAt before declared (Heading name) = (declared ≡ before ++ name ∷ []) × (is_declared before name ≡ false)
@@ -29,7 +29,7 @@ ok_is x y h = cc
 no_err : {A : Type 0} (n : ℕ) (y : A) → ◌≡◌ {A = Result A ℕ} (Err n) (Ok y) → ⊥
 no_err n y h = absurd (cc)
 
--- a reading that ends well has ended well behind its first line
+-- a reading that ends well has ended well after its first line
 ok_then : (front : List ConfigEntry) (r : Result (List ConfigEntry) ℕ) (es : List ConfigEntry) → (r >>= λ rest. Ok (front ++ rest)) ≡ Ok es
     → (rest : List ConfigEntry) × (r ≡ Ok rest) × (es ≡ front ++ rest)
 ok_then front (Ok rest) es h = (rest, refl, sym (ok_is (front ++ rest) es h))
@@ -69,7 +69,7 @@ goes_on n ls rest before declared place es s h = let r = ok_then [] (read_lines 
 refused : (n : ℕ) (ls : List (List ℕ)) (es : List ConfigEntry) → behind_step n ls None ≡ Ok es → ⊥
 refused n ls es h = no_err n es h
 
--- a `config` line behind no entry
+-- a `config` line after no entry
 first_heading : (n : ℕ) (ls : List (List ℕ)) → Rest (n + 1) ls → (declared : List (List ℕ)) (name : List ℕ) (es : List ConfigEntry)
     → behind_step n ls (heading declared name (Some [])) ≡ Ok es → AreFirst declared es
 first_heading n ls rest declared name es h = by (is_refused declared name) refl h

@@ -209,7 +209,7 @@ module _ (g : Graph) (wanted found : List ℕ) (at : ℕ) (p : Progress g wanted
     least = λ s r c. all_found s next (λ k m. ⊎_elim (found_all s found k (p.least s r c)) (found_all s (needs_at g n) k (c n (found_all s found n (p.least s r c) n_found))) (in_next k m));
   }
 
--- behind the last the found are the least closed set
+-- after the last the found are the least closed set
 pub all_done : (g : Graph) (wanted found : List ℕ) (at : ℕ) → Progress g wanted found at → length found ≤ at → IsLeastClosed g wanted found
 all_done g wanted found at p h = record {
   rooted = p.rooted;

@@ -50,7 +50,7 @@ plain_end d (inr p) h = absurd (none_some (p.0, p.1) (sym h ∙ (ap asked_in p.2
 
 -- ---- more macros
 
--- the macros are these and others behind them
+-- the macros are these and others after them
 pub more_macros : (macros : List (List ℕ)) (o : Option (List ℕ × Bool)) → (more : List (List ℕ)) × (with_asked macros o ≡ macros ++ more)
 more_macros macros None = ([], sym (whole macros))
   where

@@ -37,13 +37,13 @@ source_taken : (held : Held) (entries : Entries) (name bytes : List ℕ) → get
 source_taken held entries name bytes has false = tt
 source_taken held entries name bytes has true = λ n bad. (bytes, has, first_source.is_named bytes n bad)
 
--- the source behind the entries
+-- the source after the entries
 source_named : (held : Held) (entries : Entries) (name : List ℕ) (content : Option (List ℕ)) → get held name ≡ content →
     NamesBadLine held (taken name content >>= λ text. Ok (record { entries = entries; source = record { name = name; read = first_directives_of text } }))
 source_named held entries name None has = tt
 source_named held entries name (Some bytes) has = source_taken held entries name bytes has (nat_le (length bytes) 16777216)
 
--- the Kconfig text that was taken, and the source behind it
+-- the Kconfig text that was taken, and the source after it
 kconfig_read : (held : Held) (kconfig source bytes : List ℕ) → get held kconfig ≡ Some bytes → (read : Result Entries ℕ) → first_tree_of bytes ≡ read →
     NamesBadLine held (named kconfig read >>= λ entries. taken source (get held source) >>= λ text. Ok (record { entries = entries; source = record { name = source; read = first_directives_of text } }))
 kconfig_read held kconfig source bytes has (Ok entries) is = source_named held entries source (get held source) refl

@@ -11,7 +11,7 @@ use Rattle.ut_verdict.specs.On.{config_name}
 pub same_text : (x : List ℕ) → text_eq x x ≡ true
 same_text x = nat_list_eq_equiv.refl x
 
--- a text is its front and what stands behind it
+-- a text is its front and what stands after it
 pub front_behind : (x p : List ℕ) → starts_with nat_eq x p ≡ true → p ++ drop (length p) x ≡ x
 front_behind x p h = ap (λ q. q ++ drop (length p) x) (text_eq-exact p (take (length p) x) h) ∙ whole x (length p)
   where

@@ -11,7 +11,7 @@ more_more : (taken : Option (List ℕ)) (a b : List ℕ) → with_more (with_mor
 more_more None a b = refl
 more_more (Some t) a b = ap Some (append_assoc t a b)
 
--- the line at i stands between those before and those behind it
+-- the line at i stands between those before and those after it
 joined_at : (xs : List (List ℕ)) (i : ℕ) (line : List ℕ) → i < length xs → line ≡ get_or xs i line → concat xs ≡ concat (take i xs) ++ (line ++ concat (drop (i + 1) xs))
 joined_at xs i line lt is =
     ap concat (sym (take-append-drop i xs)) ∙ concat-append (take i xs) (drop i xs)

@@ -8,7 +8,7 @@ use Rattle.kconf_entries.specs.declared.entries.Entries.{Entries}
 use Rattle.kconf_entries.specs.BoolEntries.{bool_entry}
 use Rattle.undertaker.specs.FirstKconfig.Form.{is_declared, first_tree_of}
 
--- the entries behind those of these names
+-- the entries after those of these names
 abbrev pub AreFirst : List Bytes → List ConfigEntry → Type 0
 AreFirst before [] = Unit {0}
 AreFirst before (e ∷ es) = (needs : List Bytes) × (e ≡ bool_entry e.name needs) × (list_all (is_declared before) needs ≡ true)

@@ -66,7 +66,7 @@ KconfNames name (kconf.ReadFault file) = file ≡ name
 KconfNames name (kconf.TooLarge what count) = (what ≡ FileBytes) × (count ≡ 16777217)
 KconfNames name kconf.Oom = Unit {0}
 
--- one source behind one Kconfig text can't pass the limit on all bytes
+-- one source after one Kconfig text can't pass the limit on all bytes
 abbrev pub TakeNames : Bytes → Bytes → TakeBad → Type 0
 TakeNames source name (take.AllTooLong count) = ⊥
 TakeNames source name take.Missing = source ≡ name

@@ -65,7 +65,7 @@ AnswerWords t macros (ws ∷ asked) [] = ⊥
 AnswerWords t macros [] (word ∷ words) = ⊥
 AnswerWords t macros (ws ∷ asked) (word ∷ words) = AnswersWord t macros ws word × AnswerWords t macros asked words
 
--- one more word behind the others, which answers the wishes of the block that the step opens
+-- one more word after the others, which answers the wishes of the block that the step opens
 abbrev pub WordsBehind : Graph → List Wish → Step → List Word → List Word → Type 0
 WordsBehind g ws (Opens w) before words = (word : Word) × (words ≡ before ++ word ∷ [])
     × ((t : Shape) (macros : List (List ℕ)) → Shows t g → AreOf t macros (w ∷ ws) → AnswersWord t macros (w ∷ ws) word)

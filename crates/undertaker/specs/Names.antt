@@ -8,6 +8,6 @@ use Rattle.ut_text.specs.Text.{text_eq}
 abbrev pub number_among : List Bytes → Bytes → Option ℕ
 number_among names name = position (λ n. text_eq n name) names
 
--- the names, with this one behind them if it is new
+-- the names, with this one after them if it is new
 abbrev pub with_name : List Bytes → Bytes → List Bytes
 with_name names name = if list_any (text_eq name) names then names else names ++ name ∷ []

@@ -20,7 +20,7 @@ StandFor macros (s ∷ ss) [] = ⊥
 StandFor macros [] (d ∷ ds) = ⊥
 StandFor macros (s ∷ ss) (d ∷ ds) = StandsFor macros s d × StandFor macros ss ds
 
--- the open wishes behind a step, innermost first
+-- the open wishes after a step, innermost first
 abbrev pub behind : List Wish → List Wish
 behind [] = []
 behind (w ∷ ws) = ws
@@ -37,7 +37,7 @@ wishes_in [] = []
 wishes_in (Opens w ∷ ss) = w ∷ wishes_in ss
 wishes_in (Closes ∷ ss) = wishes_in ss
 
--- the open wishes behind a step
+-- the open wishes after a step
 abbrev pub path_behind : List Wish → Step → List Wish
 path_behind ws (Opens w) = w ∷ ws
 path_behind ws Closes = behind ws

@@ -14,8 +14,8 @@ use ut_verdict::Word;
 
 /// The word on each block in order, for texts of the first form.
 ///
-/// A block asks some macros to be defined and others not. The wanted symbols are closed under their
-/// dependencies, and the block can be on where that closes in none that is asked not to be there.
+/// A block asks some macros to be defined and others not. It can be on if nothing that it needs, directly or through
+/// dependencies, must be off.
 pub(crate) fn words_of(
     alloc: Global,
     entries: &Entries,

@@ -58,7 +58,7 @@ fn source_bad(alloc: Global, name: &Name, bad: TakeBad) -> Bad
     }
 }
 
-/// The bytes of the source, which is taken behind one other file.
+/// The bytes of the source, which is taken after one other file.
 fn read_source<F: Files>(
     alloc: Global,
     files: &mut F,

@@ -37,7 +37,7 @@ impl Names {
         self.set.get_index_of(name)
     }
 
-    /// The number of a name, which is put behind the others if it is new.
+    /// The number of a name, which is put after the others if it is new.
     pub fn add(&mut self, name: Text) -> Result<usize, AllocError>
         ensures number { IfOk result (λ k. slice_get self.new k ≡ Some name) }
         ensures within { IfOk result (λ k. k < length self.new) }

@@ -45,7 +45,7 @@ pub(crate) fn add_count(text: &mut Vec<u8>, what: &str, count: u64) -> Result<()
     text.extend_from_slice(buffer.format(count).as_bytes())
 }
 
-/// Adds a class with the words behind it.
+/// Adds a class with the words after it.
 fn add_class(text: &mut Vec<u8>, class: Class, what: &str) -> Result<(), AllocError>
     ensures { OnOk result (text.new.items ≡ text.old.items ++ (class_text class ++ what.now ++ steps_text class)) }
 {

@@ -31,7 +31,7 @@ fn line_of(alloc: Global, bad: &Bad) -> Result<Line, AllocError>
     Line::ended(text)
 }
 
-/// Tells a refusal. Where there is no memory for its line, the run ends for want of memory.
+/// Writes the line of a refusal to `err`. Where there is no memory for the line, the run fails because memory runs out.
 fn refuse<E: Sink>(alloc: Global, err: &mut E, bad: &Bad) -> Status
     ensures status { EndsWith bad.now result }
     ensures told { Tells E.taken E.faults err.old err.new (line_at bad.now result) }
@@ -48,7 +48,7 @@ fn refuse<E: Sink>(alloc: Global, err: &mut E, bad: &Bad) -> Status
     }
 }
 
-/// Writes the lines of the text, each by one put. A fault ends the writing and is told.
+/// Writes the lines of the text, each by one put. A fault ends the writing and has its line on `err`.
 fn write<O: Sink, E: Sink>(out: &mut O, err: &mut E, lines: &[Line]) -> Status
     ensures written { WritesLines (O.taken out.old) (O.taken out.new) (concat lines.now) result }
     ensures told { TellsFault E.taken E.faults err.old err.new result }

@@ -27,7 +27,7 @@ class_text class.Kconfig = codes "kconfig"
 class_text class.Missing = codes "missing"
 class_text (class.Unclassified steps) = codes "unclassified"
 
--- behind an unclassified line stand a space and the steps
+-- after an unclassified line stand a space and the steps
 abbrev pub steps_text : Class → Bytes
 steps_text (class.Unclassified steps) = codes " " ++ decimal steps
 steps_text c = []

@@ -1,4 +1,4 @@
-/// The cases over which a question is asked; each family holds those behind it.
+/// The cases over which a question is asked; each family holds those after it.
 #[derive(Clone, Copy, Debug, PartialEq, Eq)]
 pub enum Family {
     /// Every macro starts in any state.

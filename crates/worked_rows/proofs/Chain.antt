@@ -1,4 +1,4 @@
--- The words on the groups of one chain: behind a macro line, and where two groups ask for the same.
+-- The words on the groups of one chain: after a macro line, and where two groups ask for the same.
 use Rattle.std.proofs.Common.{◌≡◌, Bool, true, false, not, ◌&&◌, cond, refl, ap, ◌∙◌, codes}
 use Rattle.cpp_directives.specs.declared.condition.Cond.TheVariants.{Defined}
 use Rattle.cpp_blocks.specs.declared.state.MacroState.TheVariants.{DefinedFalse, DefinedTrue}
@@ -20,14 +20,14 @@ module _ (f : Family) (x : Case) where
   abbrev start : Start
   start = start_of f two_tree x
 
-  -- ---- behind `#define SEEN ..`
+  -- ---- after `#define SEEN ..`
 
   -- whatever its body, the macro is defined
   given_defined : (b : Bool) → is_defined (cond b DefinedTrue DefinedFalse) ≡ true
   given_defined true = refl
   given_defined false = refl
 
-  -- behind the line its macro is defined
+  -- after the line its macro is defined
   seen : holds start (sets (begun start) (codes "SEEN") (given start 1 Free)) (Defined (codes "SEEN")) ≡ true
   seen = holds_defined start (sets (begun start) (codes "SEEN") (given start 1 Free)) (codes "SEEN") ∙ given_defined (start.line 1)
 

@@ -62,7 +62,7 @@ pub fn modules_on()
     ensures m_alone { IsWordOf modular_tree module_alone none_spent 2 (Dead class.Kconfig) }
 {}
 
-/// Law: behind a `#define` of a macro, a block that asks for it is undead and its `#else` dead; and an `#elif`
+/// Law: after a `#define` of a macro, a block that asks for it is undead and its `#else` dead; and an `#elif`
 /// that asks for the same as the `#ifdef` before it is dead; all by the code alone.
 pub fn one_chain()
     ensures defined { IsWordOf two_tree behind_define none_spent 1 (Undead class.Code) }

@@ -17,7 +17,7 @@ use Rattle.undertaker.specs.FirstKconfig.BadLine.{EndsInConfig, IsNamed}
 Reads : ℕ → Reading → List (List ℕ) → Type 0
 Reads n r ls = (es : List ConfigEntry) × (read_lines n r ls ≡ Ok es)
 
--- some lines behind these make them a text of the form
+-- some lines after these make them a text of the form
 GoesOn : ℕ → Reading → List (List ℕ) → Type 0
 GoesOn n r ls = (more : List (List ℕ)) × Reads n r (ls ++ more)
 
@@ -70,13 +70,13 @@ record Stops (n : ℕ) (r : Reading) (ls : List (List ℕ)) (k : ℕ) : Type 0 w
   before : GoesOn n r (take place ls)
   behind : GoesOn n r (take (suc place) ls) → ⊥
 
--- there is no line, and the place is behind a `config` line
+-- there is no line, and the place is after a `config` line
 record IsBehind (r : Reading) (ls : List (List ℕ)) : Type 0 where
   none : ls ≡ []
   name : List ℕ
   place : r.place ≡ Heading name
 
--- the lines end behind a `config` line
+-- the lines end after a `config` line
 record Ends (n : ℕ) (r : Reading) (ls : List (List ℕ)) (k : ℕ) : Type 0 where
   goes_on : GoesOn n r ls
   last : k + 1 ≡ n + length ls
@@ -88,7 +88,7 @@ not_heading x y own name needs h p e =
     let q : y.0.place ≡ x.0.place = ap (λ (z : Reading × List ConfigEntry). z.0.place) is in
     cc
 
--- a place behind a `config` line comes from such a line
+-- a place after a `config` line comes from such a line
 from_config : (declared : List (List ℕ)) (p : Place) (l : FirstLine) (x : Reading × List ConfigEntry) (name : List ℕ)
     → step declared p l ≡ Some x → x.0.place ≡ Heading name → (new : List ℕ) × (l ≡ Config new)
 from_config declared p (Config new) x name h e = (new, refl)

@@ -10,7 +10,7 @@ pub joined : (front more : List ConfigEntry) (read : Result (List ConfigEntry) �
 joined front more (Ok es) = ap (λ (xs : List ConfigEntry). Ok xs) (sym (append_assoc front more es))
 joined front more (Err e) = refl
 
--- a line that is read, with the entry that it ends, leaves the rest to be read behind it
+-- a line that is read, with the entry that it ends, leaves the rest to be read after it
 pub line_read : (front new more : List ConfigEntry) (n : ℕ) (r t : Reading) (ls rest : List (List ℕ)) (l : List ℕ) (whole : Result (List ConfigEntry) ℕ)
     → ls ≡ l ∷ rest → step r.declared r.place (first_line l) ≡ Some (t, more) → new ≡ front ++ more
     → behind front (read_lines n r ls) ≡ whole → behind new (read_lines (n + 1) t rest) ≡ whole

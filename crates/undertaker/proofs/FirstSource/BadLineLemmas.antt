@@ -27,7 +27,7 @@ unfolding Reads closers
 can_close n blocks [] = ([], refl)
 can_close n blocks (o ∷ os) = prefixed (record { line = n; what = Endif } ∷ []) (read_lines (n + 1) (record { openers = os; blocks = blocks }) (closers os)) (can_close (n + 1) blocks os)
 
--- some lines behind these make them a text of the form
+-- some lines after these make them a text of the form
 GoesOn : ℕ → Chains → List (List ℕ) → Type 0
 GoesOn n c ls = (more : List (List ℕ)) × Reads n c (ls ++ more)
 
@@ -50,7 +50,7 @@ step_names n Closes c e h = by c.openers h
 step_names n Plain c e h = cc
 step_names n Other c e h = cc
 
--- the reading of lines behind one that is read
+-- the reading of lines after one that is read
 then_read : (n : ℕ) (c : Chains) (l : List ℕ) (ls : List (List ℕ)) (x : Chains × List Directive) → step n (first_line l) c ≡ Ok x
     → read_lines n c (l ∷ ls) ≡ (read_lines (n + 1) x.0 ls >>= λ ds. Ok (x.1 ++ ds))
 then_read n c l ls x h = rw h refl
@@ -69,7 +69,7 @@ reads_less n c l ls x h r = by (read_lines (n + 1) x.0 ls) refl (sym (then_read 
     by (Ok ds) p q = (ds, p)
     by (Err e) p q = cc
 
--- a line that stops the reading stops it whatever stands behind
+-- a line that stops the reading stops it whatever stands after
 reads_none : (n : ℕ) (c : Chains) (l : List ℕ) (ls : List (List ℕ)) (e : ℕ) → step n (first_line l) c ≡ Err e → Reads n c (l ∷ ls) → ⊥
 unfolding Reads
 reads_none n c l ls e h r = let k : read_lines n c (l ∷ ls) ≡ Err e = rw h refl in cc (k, r.1)

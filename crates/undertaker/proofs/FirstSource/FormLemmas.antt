@@ -10,7 +10,7 @@ pub joined : (front more : List Directive) (read : Result (List Directive) ℕ) 
 joined front more (Ok ds) = ap (λ (xs : List Directive). Ok xs) (sym (append_assoc front more ds))
 joined front more (Err e) = refl
 
--- a line that is read, with its directive, leaves the rest to be read behind it
+-- a line that is read, with its directive, leaves the rest to be read after it
 pub line_read : (front new more : List Directive) (n : ℕ) (c d : Chains) (ls rest : List (List ℕ)) (l : List ℕ) (whole : Result (List Directive) ℕ)
     → ls ≡ l ∷ rest → step n (first_line l) c ≡ Ok (d, more) → new ≡ front ++ more
     → behind front (read_lines n c ls) ≡ whole → behind new (read_lines (n + 1) d rest) ≡ whole

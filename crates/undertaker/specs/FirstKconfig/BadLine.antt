@@ -1,5 +1,5 @@
 -- Which line is named where a Kconfig text is not of the first form: the first with which no text of the form
--- begins, or the last `config` line where the text ends behind it. This project's rule.
+-- begins, or the last `config` line where the text ends after it. This project's rule.
 use Rattle.std.specs.Prelude.{◌≡◌, ℕ, ◌⊎◌, ◌++◌, length, Ok, List, [], ◌∷◌}
 use Rattle.ut_text.specs.Bytes.{Bytes}
 use Rattle.ut_text.specs.FirstWrong.{CanGoOn, IsFirstWrong}

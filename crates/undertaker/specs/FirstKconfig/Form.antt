@@ -24,7 +24,7 @@ is_name (b ∷ s) = is_capital b && list_all is_name_byte s
 abbrev pub is_text_byte : ℕ → Bool
 is_text_byte b = not (b == 34 || b == 39 || b == 92 || b == 36)
 
--- a text, and the quote behind it that ends the line
+-- a text, and the quote after it that ends the line
 abbrev pub ends_quoted : Bytes → Bool
 ends_quoted s = bytes_eq (drop (prefix_len is_text_byte s) s) (34 ∷ [])
 
@@ -47,7 +47,7 @@ abbrev pub with_name : Bytes → Option (List Bytes) → Option (List Bytes)
 with_name w None = None
 with_name w (Some ws) = Some (w ∷ ws)
 
--- names joined by `&&`: where a name is wanted one stands, and behind it the end or `&&`
+-- names joined by `&&`: where a name is wanted one stands, and after it the end or `&&`
 abbrev pub names_from : Bool → List Bytes → Option (List Bytes)
 names_from true [] = None
 names_from true (w ∷ ws) = if is_name w then with_name w (names_from false ws) else None
@@ -78,7 +78,7 @@ first_line line =
     else if is_prompt line then Prompt
     else if is_depends line then depends_line (names_from true (words_of (drop 12 line))) else Other
 
--- the names that are declared so far, and the place: at the start, behind a `config` line, or in an entry
+-- the names that are declared so far, and the place: at the start, after a `config` line, or in an entry
 pub record Reading : Type 0 where
   pub declared : List Bytes
   pub place : Place
@@ -95,7 +95,7 @@ is_declared declared name = list_any (text_eq name) declared
 abbrev pub is_earlier : List Bytes → Bytes → Bytes → Bool
 is_earlier declared own name = is_declared declared name && not (text_eq name own)
 
--- the entry that ends at a place, if one does; behind a `config` line none may end
+-- the entry that ends at a place, if one does; after a `config` line none may end
 abbrev pub ended : Place → Option (List ConfigEntry)
 ended Start = Some []
 ended (Heading name) = None
@@ -105,7 +105,7 @@ ended (Entry name needs) = Some (bool_entry name needs ∷ [])
 abbrev pub is_refused : List Bytes → Bytes → Bool
 is_refused declared name = is_declared declared name || nat_le 4096 (length declared)
 
--- a `config` line behind the entry that it ends
+-- a `config` line after the entry that it ends
 abbrev pub heading : List Bytes → Bytes → Option (List ConfigEntry) → Option (Reading × List ConfigEntry)
 heading declared name None = None
 heading declared name (Some done) =

@@ -13,7 +13,7 @@ Finishes (Ok done) line ended = ended ≡ Some (option_to_list done)
 Finishes (Err (NotYet n)) line ended = (n ≡ line) × (ended ≡ None)
 Finishes (Err Oom) line ended = Unit {0}
 
--- what stands behind a line and the entry that it ends, or the line is named
+-- what stands after a line and the entry that it ends, or the line is named
 abbrev pub Steps : Result (Option ConfigEntry) FirstBad → ℕ → Reading → Option (Reading × List ConfigEntry) → Type 0
 Steps (Ok done) line new step = step ≡ Some (new, option_to_list done)
 Steps (Err (NotYet n)) line new step = (n ≡ line) × (step ≡ None)

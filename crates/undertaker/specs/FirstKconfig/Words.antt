@@ -3,7 +3,7 @@ use Rattle.std.specs.Prelude.{◌≡◌, ◌++◌, Bool, not, Option, None, Some
 use Rattle.ut_text.specs.Bytes.{Bytes}
 use Rattle.undertaker.specs.FirstKconfig.Form.{words_of, names_from}
 
--- the words behind the first one, of what stands behind it
+-- the words after the first one, of what stands after it
 abbrev pub later_words : Bytes → List Bytes
 later_words [] = []
 later_words (b ∷ s) = words_of s
@@ -13,7 +13,7 @@ abbrev pub with_names : List Bytes → Option (List Bytes) → Option (List Byte
 with_names front None = None
 with_names front (Some names) = Some (front ++ names)
 
--- a word that stands where one like it is wanted, and the names behind it; or no names are there
+-- a word that stands where one like it is wanted, and the names after it; or no names are there
 abbrev pub Takes : Bool → Bytes → List Bytes → List Bytes → Bool → Type 0
 Takes wants word old new ok =
     (ws : List Bytes) → with_names old (names_from wants (word ∷ ws)) ≡ (if ok then with_names new (names_from (not wants) ws) else None)

@@ -11,12 +11,12 @@ use Rattle.undertaker.specs.FirstSource.Form.{Chains, no_chains, first_line, ste
 abbrev pub IsOfForm : List Bytes → Type 0
 IsOfForm lines = (directives : List Directive) × (read_lines 1 no_chains lines ≡ Ok directives)
 
--- the chains behind the lines from number n on
+-- the chains after the lines from number n on
 abbrev pub chains_behind : ℕ → Chains → List Bytes → Result Chains ℕ
 chains_behind n c [] = Ok c
 chains_behind n c (l ∷ ls) = step n (first_line l) c >>= λ x. chains_behind (n + 1) x.0 ls
 
--- a text of the form begins with all the lines, but chains are open behind them, the innermost one opened by line n
+-- a text of the form begins with all the lines, but chains are open after them, the innermost one opened by line n
 pub record EndsOpen (lines : List Bytes) (n : ℕ) : Type 0 where
   pub goes_on : CanGoOn IsOfForm lines
   pub chains : Chains

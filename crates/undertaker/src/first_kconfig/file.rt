@@ -11,14 +11,14 @@ use std::alloc::Global;
 use ut_base::{Files, Limit, Meter, Name, TakeBad, take};
 
 /// Reads the root text, which is of the first form: a list of at most 4,096 entries, each of them the line
-/// `config NAME`, the line `bool "TEXT"` behind a tab, and lines `depends on NAME && NAME ..` behind a tab.
+/// `config NAME`, the line `bool "TEXT"` after a tab, and lines `depends on NAME && NAME ..` after a tab.
 ///
 /// A NAME is a capital letter followed by letters, digits and `_`; each is declared once, and a dependency
 /// names an earlier entry. TEXT holds no `"`, `'`, `\` or `$`. The prompt's full condition is the entry's
 /// dependency.
 ///
 /// Errors: `NotYet` names the first line with which the text cannot be continued to the form, or the last
-/// `config` line where the text ends behind it; `Missing` and `ReadFault` come where the file was not there or
+/// `config` line where the text ends after it; `Missing` and `ReadFault` come where the file was not there or
 /// could not be read, `TooLarge` where it or all files are too long, `Oom` where there is no memory. The meter
 /// has then taken the file's bytes if they were read.
 pub fn first_tree<F: Files>(

@@ -19,7 +19,7 @@ use ut_text::split_line;
 
 const MOST_ENTRIES: usize = 4096;
 
-/// Where a line stands in a text of the first form: before every entry, behind a `config` line, or in an entry.
+/// Where a line stands in a text of the first form: before every entry, after a `config` line, or in an entry.
 #[derive(Drop)]
 pub enum Place {
     Start,
@@ -206,7 +206,7 @@ impl FirstReader {
     }
 }
 
-/// Puts the entry that a line ends, if it ends one, behind the others.
+/// Puts the entry that a line ends, if it ends one, after the others.
 fn keep(list: &mut Vec<ConfigEntry>, entry: Option<ConfigEntry>) -> Result<(), FirstBad>
     ensures list { OnOk result (list.new.items ≡ list.old.items ++ option_to_list entry) }
     ensures memory { IfErr result (λ e. e ≡ bad.Oom) }

@@ -102,7 +102,7 @@ pub fn first_line(alloc: Global, line: &[u8]) -> Result<FirstLine, AllocError>
     Ok(FirstLine::Other)
 }
 
-/// What a line with these behind `depends on` says.
+/// What a line with these after `depends on` says.
 fn depends_line(alloc: Global, text: &[u8]) -> Result<FirstLine, AllocError>
     ensures { IfOk result (λ f. f ≡ spec.depends_line (spec.names_from true (spec.words_of text.now))) }
 {
@@ -128,7 +128,7 @@ fn word_len(text: &[u8]) -> usize
     count
 }
 
-/// The first word, and what stands behind it.
+/// The first word, and what stands after it.
 fn split_word(text: &[u8]) -> (&[u8], &[u8])
     ensures words { spec.words_of text.now ≡ result.0.now ∷ later_words result.1.now }
     ensures within { length result.1.now ≤ length text.now }
@@ -136,7 +136,7 @@ fn split_word(text: &[u8]) -> (&[u8], &[u8])
     text.split_at(word_len(text))
 }
 
-/// What stands behind the space at the front.
+/// What stands after the space at the front.
 fn behind_space(text: &[u8]) -> &[u8]
     requires { 0 < length text.now }
     ensures words { spec.words_of result.now ≡ later_words text.now }
@@ -180,7 +180,7 @@ fn names_of(alloc: Global, words: &[&[u8]]) -> Result<Option<Items<Text>>, Alloc
     Ok(Some(names))
 }
 
-/// Whether a word stands where one like it is wanted; a name goes behind the others.
+/// Whether a word stands where one like it is wanted; a name goes after the others.
 fn takes_word(
     alloc: Global,
     wants_name: bool,

@@ -8,7 +8,7 @@ use Rattle.undertaker.specs.Wishes.{Among}
 use Rattle.undertaker.proofs.JudgingLaws.{Judged, judged_step, judged_all, step_below, drop_none}
 use Rattle.undertaker.proofs.judging.words_with.Goals as goal
 
--- what stands behind the last step
+-- what stands after the last step
 abbrev no_step : Step
 no_step = Opens (record { name = 0; meaning = Free; defined = false })
 
