@@ -4,3 +4,4 @@ pub mod DerivationText
 pub mod Merging
 pub mod Verdicts
 pub mod Reading
+pub mod Lent

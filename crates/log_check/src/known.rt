@@ -1,6 +1,7 @@
 ghost use Rattle.std.specs.Prelude.{◌≡◌, ◌↔◌, ◌++◌, ◌∷◌, [], IfNone, IfOk, IfSome, IsTrue, OnErr};
 ghost use Rattle.std.specs.Bool.{OnFalse, OnTrue};
 ghost use Rattle.log_check.specs.Derivations.{ChainGives, IsNumbered};
+ghost use Rattle.log_check.specs.Lent.{lent};
 
 use crate::derivations::DerivationLine;
 use crate::running::RunningClause;
@@ -12,7 +13,7 @@ use ut_logic::{Clause, Cnf};
 #[derive(Drop)]
 struct Known<'a> {
     clauses: &'a [Clause],
-    results: &'a [Clause],
+    results: &'a [&'a Clause],
 }
 
 impl<'a> Model for Known<'a> {
@@ -21,13 +22,15 @@ impl<'a> Model for Known<'a> {
 
     ghost Value = { List (List Lit) };
 
-    ghost view = { λ k. k.clauses.now ++ k.results.now };
+    ghost use Rattle.log_check.specs.Lent.{lent};
+
+    ghost view = { λ k. k.clauses.now ++ lent k.results.now };
 }
 
 impl<'a> Known<'a> {
     /// The clauses, then the results.
-    fn of(clauses: &'a [Clause], results: &'a [Clause]) -> Known<'a>
-        ensures { result ≡ clauses.now ++ results.now }
+    fn of(clauses: &'a [Clause], results: &'a [&'a Clause]) -> Known<'a>
+        ensures { result ≡ clauses.now ++ lent results.now }
     {
         Known { clauses, results }
     }
@@ -46,7 +49,7 @@ impl<'a> Known<'a> {
             return Some(&self.clauses[place as usize]);
         }
         if place - count < self.results.len() as u64 {
-            return Some(&self.results[(place - count) as usize]);
+            return Some(self.results[(place - count) as usize]);
         }
         None
     }
@@ -73,35 +76,35 @@ impl<'a> Known<'a> {
 
 /// The results of the lines that were taken so far, in order.
 #[derive(Drop)]
-pub struct Results {
-    alloc: Global,
-    clauses: Vec<Clause>,
+pub struct Results<'a> {
+    clauses: Vec<&'a Clause>,
     running: RunningClause,
 }
 
-impl Model for Results {
+impl<'a> Model for Results<'a> {
     ghost use Rattle.std.specs.Prelude.{List};
     ghost use Rattle.ut_logic.specs.declared.literals.Lit.{Lit};
 
     ghost Value = { List (List Lit) };
 
-    ghost view = { λ r. r.clauses.items };
+    ghost use Rattle.log_check.specs.Lent.{lent};
+
+    ghost view = { λ r. lent r.clauses.items };
 }
 
-impl Results {
+impl<'a> Results<'a> {
     /// No result yet.
-    pub fn new(alloc: Global) -> Results
+    pub fn new(alloc: Global) -> Results<'a>
         ensures { result ≡ [] }
     {
         Results {
-            alloc,
             clauses: Vec::new(alloc),
             running: RunningClause::new(alloc),
         }
     }
 
     /// Adds the line's result if its chain gives it from these clauses and the results so far; whether it does.
-    pub fn take(&mut self, clauses: &[Clause], line: &DerivationLine) -> Result<bool, AllocError>
+    pub fn take(&mut self, clauses: &[Clause], line: &'a DerivationLine) -> Result<bool, AllocError>
         ensures given { IfOk result (λ given.
             IsTrue given ↔ ChainGives (clauses.now ++ self.old) line.now.chain line.now.result) }
         ensures added { IfOk result (λ given. OnTrue given (self.new ≡ self.old ++ line.now.result ∷ [])) }
@@ -112,7 +115,7 @@ impl Results {
         if !known.gives(line, &mut self.running)? {
             return Ok(false);
         }
-        self.clauses.push(line.result.copy(self.alloc)?)?;
+        self.clauses.push(&line.result)?;
         Ok(true)
     }
 }
@@ -122,12 +125,12 @@ impl Results {
 /// Clauses count from 1. To follow a derivation line by line, take its lines one after another. Rule: resolution in
 /// propositional logic; numbers and chains are this project's own.
 #[derive(Drop)]
-pub struct KnownClauses {
+pub struct KnownClauses<'a> {
     form: Cnf,
-    results: Results,
+    results: Results<'a>,
 }
 
-impl Model for KnownClauses {
+impl<'a> Model for KnownClauses<'a> {
     ghost use Rattle.std.specs.Prelude.{◌++◌, List};
     ghost use Rattle.ut_logic.specs.declared.literals.Lit.{Lit};
 
@@ -136,9 +139,9 @@ impl Model for KnownClauses {
     ghost view = { λ k. k.form.clauses ++ k.results };
 }
 
-impl KnownClauses {
+impl<'a> KnownClauses<'a> {
     /// The clauses of the form. It takes no memory.
-    pub fn new(alloc: Global, form: Cnf) -> KnownClauses
+    pub fn new(alloc: Global, form: Cnf) -> KnownClauses<'a>
         ensures { result ≡ form.clauses }
     {
         KnownClauses {
@@ -147,10 +150,10 @@ impl KnownClauses {
         }
     }
 
-    /// Adds the line's result if its chain gives it from these clauses; whether it does.
+    /// Adds the line's result, without a copy, if its chain gives it from these clauses; whether it does.
     ///
     /// The only error is want of memory, after which the clauses are as before.
-    pub fn take(&mut self, line: &DerivationLine) -> Result<bool, AllocError>
+    pub fn take(&mut self, line: &'a DerivationLine) -> Result<bool, AllocError>
         ensures given { IfOk result (λ given. IsTrue given ↔ ChainGives self.old line.now.chain line.now.result) }
         ensures added { IfOk result (λ given. OnTrue given (self.new ≡ self.old ++ line.now.result ∷ [])) }
         ensures same { IfOk result (λ given. OnFalse given (self.new ≡ self.old)) }

@@ -15,5 +15,5 @@ pub fn are_shared() {
     is_shared::<Derivation>();
     is_shared::<Checked>();
     is_shared::<TextLineBad>();
-    is_shared::<KnownClauses>();
+    is_shared::<KnownClauses<'static>>();
 }

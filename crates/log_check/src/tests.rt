@@ -75,15 +75,13 @@ fn checked(alloc: Global, text: &[u8]) -> Result<Checked, Fail> {
     Ok(check(alloc, &cnf, &d)?)
 }
 
-/// Whether the known clauses take the step, which is written again as it stands.
-fn takes(alloc: Global, known: &mut KnownClauses, step: &[u8]) -> Result<bool, Fail> {
-    let (number, line) = read_step(alloc, step)?.ok_or("step")?;
+/// Whether the step is read, and written again as it stands.
+fn is_kept(alloc: Global, step: &[u8]) -> Result<bool, AllocError> {
     let mut text = Vec::new(alloc);
-    push_step(&mut text, number, &line)?;
-    if text.as_slice() != step {
-        return Err("text".into());
+    if let Some((number, line)) = read_step(alloc, step)? {
+        push_step(&mut text, number, &line)?;
     }
-    Ok(known.take(&line)?)
+    Ok(text.as_slice() == step)
 }
 
 /// Whether the two clauses have a resolvent on variable 1.
@@ -109,19 +107,25 @@ fn a_wrong_pivot_and_no_line_are_bad(rt: HostRuntime) -> Result<(), Fail> {
 }
 
 #[test]
-fn a_derivation_is_followed_step_by_step(rt: HostRuntime) -> Result<(), Fail> {
+fn a_derivation_is_followed_line_by_line(rt: HostRuntime) -> Result<(), Fail> {
     let alloc = rt.alloc();
+    let text = b" step 18: -5 0 via 7 8 14 1 1 2 9 6 4 4 6\n step 19: 0 via 18 5 17\n";
+    let d = read_derivation(alloc, text)?;
     let cnf = form(alloc, 9, WORKED.as_slice())?.ok_or("form")?;
     let mut known = KnownClauses::new(alloc, cnf);
-    assert!(rt; !takes(alloc, &mut known, b" step 19: 0 via 18 5 17")?);
-    assert!(rt;
-        takes(
-            alloc,
-            &mut known,
-            b" step 18: -5 0 via 7 8 14 1 1 2 9 6 4 4 6"
-        )?
-    );
-    assert!(rt; takes(alloc, &mut known, b" step 19: 0 via 18 5 17")?);
+    let [first, last] = d.lines.as_slice() else {
+        return Err("lines".into());
+    };
+    assert!(rt; !known.take(last)?);
+    assert!(rt; known.take(first)?);
+    assert!(rt; known.take(last)?);
+    Ok(())
+}
+
+#[test]
+fn a_step_is_read_and_written(rt: HostRuntime) -> Result<(), Fail> {
+    assert!(rt; is_kept(rt.alloc(), b" step 18: -1 5 0 via 7 8 14")?);
+    assert!(rt; !is_kept(rt.alloc(), b" step 18: -1 5 0 via 7 8 14\n")?);
     Ok(())
 }
 
