@@ -54,11 +54,13 @@ pub fn push_formula(text: &mut String, formula: &Formula) -> Result<(), Fail> {
 #[cycle(writing)]
 fn push_list(text: &mut String, sign: &str, list: &[Formula]) -> Result<(), Fail> {
     text.push_str("(")?;
-    let mut before = "";
+    let mut is_first = true;
     for part in list {
-        text.push_str(before)?;
+        if !is_first {
+            text.push_str(sign)?;
+        }
         push_formula(text, part)?;
-        before = sign;
+        is_first = false;
     }
     text.push_str(")")?;
     Ok(())
@@ -66,11 +68,13 @@ fn push_list(text: &mut String, sign: &str, list: &[Formula]) -> Result<(), Fail
 
 /// What a fact holds, with one blank between.
 fn push_holds(text: &mut String, fact: &Fact) -> Result<(), Fail> {
-    let mut before = "";
+    let mut is_first = true;
     for formula in fact.holds.as_slice() {
-        text.push_str(before)?;
+        if !is_first {
+            text.push_str(" ")?;
+        }
         push_formula(text, formula)?;
-        before = " ";
+        is_first = false;
     }
     Ok(())
 }
