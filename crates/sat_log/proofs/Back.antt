@@ -1,7 +1,7 @@
 -- Resolving forced literals away from a false clause.
 use Rattle.std.proofs.Common.{◌≡◌, ◌≢◌, ℕ, ◌+◌, ◌-◌, ◌<◌, ◌≤◌, Bool, true, false, not, List, [], ◌∷◌, ◌++◌, length, get_or, take, drop, inl, inr, refl, sym, ap, ◌∙◌, subst, arith}
 use Rattle.std.specs.Prelude.{Contains}
-use Rattle.std.proofs.lemmas.List.{take-append-drop, drop_more, get_or_default, get_or-drop, length-drop}
+use Rattle.std.proofs.lemmas.List.{take-append-drop, take_more, drop_more, get_or_default, get_or-drop, length-drop}
 use Rattle.std.proofs.lemmas.List.Elements.{Contains-append_right, Contains-get_or}
 use Rattle.std.proofs.lemmas.Bool.{cases_lt}
 use Rattle.ut_logic.specs.declared.literals.Lit.{Lit}
@@ -15,6 +15,7 @@ use Rattle.sat_log.specs.declared.marks.Mark.{Mark}
 use Rattle.sat_log.specs.Moves.{IsSet, IsFalse, IsUnset, IsFalseClause}
 use Rattle.sat_log.specs.Inner.{IsReason, AreReasons, AreApart, IsBackAt, IsStepBack}
 use Rattle.sat_log.proofs.RunLemmas.{set_left, set_from_mark}
+use Rattle.sat_log.proofs.Places.{set_push_cases}
 use Rattle.sat_log.proofs.Settled.{both_set, mark_of}
 
 pub not_not : (s : Bool) → not (not s) ≡ s
@@ -97,7 +98,7 @@ module _ (known : List (List Lit)) (ms : List Mark) (reasons : List ℕ) (first 
     unset = b.unset;
   })
 
-  resolved : (acc' c : List Lit) (pairs' : List PivotOf) (reason : ℕ) → reason ≡ get_or reasons i 0 → (get_or ms i d).decided ≡ false → IsNumbered known reason c → IsResolvent acc c (get_or ms i d).lit.var acc' → pairs' ≡ pairs ++ (record { pivot = (get_or ms i d).lit.var; clause = reason }) ∷ [] → IsBackAt known ms first i acc' pairs'
+  pub resolved : (acc' c : List Lit) (pairs' : List PivotOf) (reason : ℕ) → reason ≡ get_or reasons i 0 → (get_or ms i d).decided ≡ false → IsNumbered known reason c → IsResolvent acc c (get_or ms i d).lit.var acc' → pairs' ≡ pairs ++ (record { pivot = (get_or ms i d).lit.var; clause = reason }) ∷ [] → IsBackAt known ms first i acc' pairs'
   resolved acc' c pairs' reason at forced num res e =
       let m : Mark = get_or ms i d in
       let before : List Mark = take i ms in
@@ -153,6 +154,28 @@ module _ (known : List (List Lit)) (ms : List Mark) (reasons : List ℕ) (first 
   pub step_back : (acc' : List Lit) (pairs' : List PivotOf) (reason : ℕ) → reason ≡ get_or reasons i 0 → IsStepBack known (get_or ms i d) reason acc pairs acc' pairs' → IsBackAt known ms first i acc' pairs'
   step_back acc' pairs' reason at (inl q) = stays acc' pairs' q.0 q.1 q.2
   step_back acc' pairs' reason at (inr q) = resolved acc' q.1 pairs' reason at q.0 q.2 q.3 q.4
+
+  -- the other literals were false before the mark
+  pub false_before : (acc' c : List Lit) (reason : ℕ) → reason ≡ get_or reasons i 0 → (get_or ms i d).decided ≡ false → IsNumbered known reason c → IsResolvent acc c (get_or ms i d).lit.var acc' → IsFalseClause (take (i + 1) ms) acc → IsFalseClause (take i ms) acc'
+  false_before acc' c reason at forced num res early =
+      let m : Mark = get_or ms i d in
+      let before : List Mark = take i ms in
+      let after : List Mark = drop (i + 1) ms in
+      let split : before ++ m ∷ after ≡ ms = split_at ms i d h in
+      let given = rs.1 i d h forced in
+      let same : given.0 ≡ c = numbered_once known reason given.0 c (rw at given.1) num in
+      let r : IsReason before m.lit c = subst (IsReason before m.lit) same given.2 in
+      let apart : AreApart (before ++ m ∷ after) = subst AreApart (sym split) a in
+      let all_false : IsFalseClause (before ++ m ∷ after) acc = subst (λ t. IsFalseClause t acc) (sym split) b.is_false in
+      let own : literal m.lit.var (not res.sign) ≡ m.lit = signs before m after acc c acc' apart all_false res in
+      let other : literal m.lit.var res.sign ≡ negated m.lit = ap (literal m.lit.var) (sym (not_not res.sign)) ∙ ap negated own in
+      λ k j. elim (res.sound k j) [
+        | inl q ↦ elim (set_push_cases before m (negated k) (subst (λ t. IsFalse t k) (take_more ms i d h) (early k q.0))) [
+          | inl s ↦ s
+          | inr e ↦ absurd (q.1 (sym (double k) ∙ ap negated (sym e) ∙ sym other))
+        ]
+        | inr q ↦ r.others k q.0 (λ f. q.1 (f ∙ sym own))
+      ]
 
   -- the reason, and that it resolves with the clause
   pub can_resolve : (reason : ℕ) → reason ≡ get_or reasons i 0 → (get_or ms i d).decided ≡ false → (c : List Lit) × IsNumbered known reason c × (Contains acc (negated (get_or ms i d).lit) → ¬ HasNoResolvent acc c (get_or ms i d).lit.var)

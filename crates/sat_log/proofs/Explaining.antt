@@ -10,14 +10,14 @@ use Rattle.log_check.proofs.Resolvents.{contains_head, contains_tail, contains_c
 use Rattle.sat_log.specs.declared.marks.Mark.{Mark}
 use Rattle.sat_log.specs.Moves.{IsSet, IsFalse, IsFalseClause}
 use Rattle.sat_log.specs.Trails.{IsCut}
-use Rattle.sat_log.specs.Inner.{AreApart, IsSettled, IsBackAt, EndsOrCuts}
-use Rattle.sat_log.proofs.RunLemmas.{set_left, same_or_turned}
+use Rattle.sat_log.specs.Inner.{AreApart, IsBackAt}
+use Rattle.sat_log.proofs.RunLemmas.{set_left}
 use Rattle.sat_log.proofs.Settled.{mark_of, both_set}
-use Rattle.sat_log.proofs.Back.{split_at, apart_later, double}
+use Rattle.sat_log.proofs.Back.{apart_later, double}
 use Rattle.sat_log.proofs.Forcing.{set_at}
 
 -- a false literal has its place
-place_of : (ms : List Mark) (l : Lit) → IsFalse ms l → (k : ℕ) × (k < length ms) × ((d : Mark) → (get_or ms k d).lit ≡ negated l)
+pub place_of : (ms : List Mark) (l : Lit) → IsFalse ms l → (k : ℕ) × (k < length ms) × ((d : Mark) → (get_or ms k d).lit ≡ negated l)
 place_of ms l f = at m.0 m.1 m.2
   where
     m : (m : Mark) × Contains ms m × (m.lit ≡ negated l)
@@ -27,7 +27,7 @@ place_of ms l f = at m.0 m.1 m.2
     at m (k, lt, here) e = (k, lt, λ d. ap (λ (x : Mark). x.lit) (get_or_default ms k d m lt ∙ here) ∙ e)
 
 -- it is false in a longer front
-false_at : (ms : List Mark) (j k : ℕ) (l : Lit) (d : Mark) → j < k → k ≤ length ms → (get_or ms j d).lit ≡ negated l → IsFalse (take k ms) l
+pub false_at : (ms : List Mark) (j k : ℕ) (l : Lit) (d : Mark) → j < k → k ≤ length ms → (get_or ms j d).lit ≡ negated l → IsFalse (take k ms) l
 false_at ms j k l d lt h e =
     let len : length (take k ms) ≡ k = length-take-le k ms h in
     set_at (take k ms) j d (negated l) (omega arith) (ap (λ (x : Mark). x.lit) (get_or-take k ms j d lt) ∙ e)
@@ -126,18 +126,3 @@ highest_cut known ms first r pairs a b h =
         },
       ),
     )
-
-pub explained : (known : List (List Lit)) (ms : List Mark) (first r : List Lit) (pairs : List PivotOf) → AreApart ms → IsSettled known ms → IsBackAt known ms first 0 r pairs → EndsOrCuts ms r
-explained known ms first r pairs a s b = elim (highest ms r b.is_false) [
-  | inl e ↦ inl (
-    λ k d h. elim (same_or_turned (get_or ms k d).decided false) [
-      | inl forced ↦ forced
-      | inr decided ↦
-          let split = sym (split_at ms k d h) in
-          let u = b.unset (take k ms) (get_or ms k d) (drop (k + 1) ms) split decided (s (take k ms) (get_or ms k d) (drop (k + 1) ms) split decided) in
-          absurd (contains_nothing u.0 (subst (λ t. Contains t u.0) e u.1))
-    ],
-    e,
-  )
-  | inr h ↦ inr (h.place, highest_cut known ms first r pairs a b h)
-]

@@ -50,7 +50,7 @@ tells_here ms x false i = i
 pub set_last : (ms : List Mark) (m : Mark) → IsSet (ms ++ m ∷ []) m.lit
 set_last ms m = set_from_mark (ms ++ m ∷ []) m (Contains-push ms m)
 
-values_push : (n : ℕ) (ms : List Mark) (m : Mark) (values : List Value) → 0 < m.lit.var → m.lit.var ≤ n → AreValues n ms values → AreValues n (ms ++ m ∷ []) (set values (m.lit.var - 1) (value_for m.lit.positive))
+pub values_push : (n : ℕ) (ms : List Mark) (m : Mark) (values : List Value) → 0 < m.lit.var → m.lit.var ≤ n → AreValues n ms values → AreValues n (ms ++ m ∷ []) (set values (m.lit.var - 1) (value_for m.lit.positive))
 values_push n ms m values low high (len, tell) =
     let k : ℕ = m.lit.var - 1 in
     let v : Value = value_for m.lit.positive in (

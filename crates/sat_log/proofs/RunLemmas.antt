@@ -72,7 +72,7 @@ from_within n cs acc (p ∷ ps) r h w (c, mid, i, res, g) =
     let there : Contains cs c = (p.clause - 1, omega arith, i.2) in
     from_within n cs mid ps r h (λ l k. elim (res.sound l k) [ inl q ↦ w l q.0 | inr q ↦ h c there l q.0 ]) g
 
-gives_within : (n : ℕ) (cs : List (List Lit)) (chain : Chain) (r : List Lit) → AllWithinVars n cs → ChainGives cs chain r → Within n r
+pub gives_within : (n : ℕ) (cs : List (List Lit)) (chain : Chain) (r : List Lit) → AllWithinVars n cs → ChainGives cs chain r → Within n r
 gives_within n cs chain r h (c, i, g) =
     let there : Contains cs c = (chain.first - 1, omega arith, i.2) in
     from_within n cs c chain.pairs r h (h c there) g

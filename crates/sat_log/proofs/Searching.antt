@@ -1,6 +1,6 @@
 -- A turn of the search moves the trail, and leaves less work.
-use Rattle.std.proofs.Common.{◌≡◌, ◌≢◌, ℕ, suc, ◌+◌, ◌-◌, ◌<◌, ◌≤◌, List, [], ◌∷◌, length, inl, inr, ap, ◌∙◌, subst, arith}
-use Rattle.std.specs.Prelude.{Contains}
+use Rattle.std.proofs.Common.{◌≡◌, ◌≢◌, ℕ, suc, ◌+◌, ◌-◌, ◌<◌, ◌≤◌, List, [], ◌∷◌, length, inl, inr, refl, ap, ◌∙◌, subst, arith}
+use Rattle.std.specs.Prelude.{Contains, Option, Some, None, IfNone}
 use Rattle.std.proofs.lemmas.List.{length-append, length_push}
 use Rattle.ut_logic.specs.declared.literals.Lit.{Lit}
 use Rattle.ut_logic.specs.Clauses.{AreWithin}
@@ -16,6 +16,11 @@ use Rattle.sat_log.specs.Search.{IsTurn}
 use Rattle.sat_log.proofs.RunLemmas.{kept_run}
 use Rattle.sat_log.proofs.Bound.{room_forced, room_decided, stepped}
 use Rattle.sat_log.proofs.Ending.{falls_at_step, falls_at_jump}
+
+-- what holds where nothing was found
+pub none_at : {A : Type 0} (r : Option A) (P : Type 0) → ((x : A) → r ≡ Some x → ⊥) → IfNone r P → P
+none_at (Some x) P other h = absurd (other x refl)
+none_at None P other h = h
 
 -- a propagation by number is one
 pub sets_steps : (n : ℕ) (clauses : List (List Lit)) (number : ℕ) (s t : State) → Sets clauses number s t → Steps n clauses s t

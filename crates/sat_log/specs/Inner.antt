@@ -75,6 +75,11 @@ IsStepBack known mark reason acc pairs acc' pairs' =
     ((acc' ≡ acc) × (pairs' ≡ pairs) × (Contains acc (negated mark.lit) → mark.decided ≡ true))
     ⊎ ((mark.decided ≡ false) × (c : List Lit) × IsNumbered known reason c × IsResolvent acc c mark.lit.var acc' × (pairs' ≡ pairs ++ (record { pivot = mark.lit.var; clause = reason }) ∷ []))
 
+-- the variable is resolved away by the known clause with this number, and the pair is noted
+abbrev pub IsResolvedStep : List (List Lit) → ℕ → ℕ → List Lit → List PivotOf → List Lit → List PivotOf → Type 0
+IsResolvedStep known pivot number acc pairs acc' pairs' =
+    (c : List Lit) × IsNumbered known number c × IsResolvent acc c pivot acc' × (pairs' ≡ pairs ++ (record { pivot = pivot; clause = number }) ∷ [])
+
 -- the first so many marks, with their reasons and the values of the variables, are those of a state that some
 -- run reaches; the first low variables are set
 pub record AreTrail (n : ℕ) (clauses : List (List Lit)) (lines : List DerivationLine) (marks : List Mark) (reasons : List ℕ) (set low : ℕ) (values : List Value) (steps : ℕ) : Type 0 where
@@ -91,3 +96,7 @@ pub record AreTrail (n : ℕ) (clauses : List (List Lit)) (lines : List Derivati
 -- nothing is decided and the clause is empty, or the trail can be cut for it
 abbrev pub EndsOrCuts : List Mark → List Lit → Type 0
 EndsOrCuts marks r = (All (λ (m : Mark). m.decided ≡ false) marks × (r ≡ [])) ⊎ ((k : ℕ) × IsCut marks r k)
+
+-- where each known clause has slack before each decided literal, the clause ends the search or cuts the trail
+abbrev pub IsExplained : List (List Lit) → List Mark → List Lit → Type 0
+IsExplained known marks r = IsSettled known marks → EndsOrCuts marks r

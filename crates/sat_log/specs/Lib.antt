@@ -8,3 +8,9 @@ pub mod TrailInside
 pub mod Search
 pub mod Answers
 pub mod Choosing
+pub mod Codes
+pub mod Stores
+pub mod Waiting
+pub mod Links
+pub mod Watches
+pub mod Placing

@@ -1,96 +1,106 @@
-ghost use Rattle.std.specs.Prelude.{◌≡◌, ◌+◌, ◌<◌, ◌≤◌, ◌↔◌, ℕ, length, slice_index_or, IsTrue};
-ghost use Rattle.ut_logic.specs.Clauses.{IsOrdered};
-ghost use Rattle.ut_logic.specs.declared.literals.Lit.{Lit};
-ghost use Rattle.sat_log.specs.Moves.{IsFalse, IsForcing, IsSet};
-ghost use Rattle.sat_log.specs.Trails.{IsCut, IsFirstPlace};
+ghost use Rattle.std.specs.Prelude.{◌≡◌, ◌^◌, ◌<◌, ◌≤◌, ℕ, true, length, slice_index_or, All};
+ghost use Rattle.sat_log.specs.declared.marks.Mark.{Mark};
+ghost use Rattle.sat_log.specs.Placing.{AreLatest, AreLatestTwo, behind_of, IsFirstDecided};
 
 use crate::marks::Mark;
+use crate::values::Value;
 use ut_logic::Lit;
 
-/// Whether the literal is set by some mark.
-fn is_set(marks: &[Mark], lit: Lit) -> bool
-    ensures { IsTrue result ↔ IsSet marks.now lit }
-{
-    for mark in marks {
-        if mark.lit.var == lit.var && mark.lit.positive == lit.positive {
-            return true;
-        }
-    }
-    false
+/// The literals of a clause that stand last in the trail, by their places in the clause.
+#[derive(Clone, Copy)]
+pub struct LatestTwo {
+    pub first: usize,
+
+    /// The same as the first where there is one literal.
+    pub second: usize,
+
+    /// The first place of the trail behind the second one, 0 where there is one literal.
+    pub bound: usize,
+
+    /// The first place of the trail behind the first one.
+    pub last: usize,
 }
 
-fn is_false(marks: &[Mark], lit: Lit) -> bool
-    ensures { IsTrue result ↔ IsFalse marks.now lit }
+impl LatestTwo {
+    /// With one literal more, which stands before this place of the trail.
+    fn with(self, literal: usize, behind: usize) -> LatestTwo
+        ensures last { self.last < behind →
+            (result.first ≡ literal) × (result.second ≡ self.first) × (result.bound ≡ self.last) × (result.last ≡ behind) }
+        ensures second { behind ≤ self.last → self.bound < behind →
+            (result.first ≡ self.first) × (result.second ≡ literal) × (result.bound ≡ behind) × (result.last ≡ self.last) }
+        ensures neither { behind ≤ self.last → behind ≤ self.bound → result ≡ self }
+    {
+        if self.last < behind {
+            return LatestTwo {
+                first: literal,
+                second: self.first,
+                bound: self.last,
+                last: behind,
+            };
+        }
+        if self.bound < behind {
+            return LatestTwo {
+                first: self.first,
+                second: literal,
+                bound: behind,
+                last: self.last,
+            };
+        }
+        self
+    }
+}
+
+/// The place of the trail behind the literal's variable; behind all where it isn't set.
+fn behind(at: &[u32], values: &[Value], set: usize, lit: Lit) -> usize
+    requires set { set < 2 ^ 32 }
+    requires low { 0 < lit.var }
+    requires at { lit.var ≤ length at.now }
+    requires values { lit.var ≤ length values.now }
+    ensures behind { result ≡ behind_of at.now values.now set lit }
+    ensures some { 0 < result }
 {
-    let opposite = Lit {
-        var: lit.var,
-        positive: !lit.positive,
+    let place = (lit.var - 1) as usize;
+    match values[place] {
+        Value::Unset => set + 1,
+        Value::True => at[place] as usize + 1,
+        Value::False => at[place] as usize + 1,
+    }
+}
+
+/// The two literals that stand last in the trail, unset ones behind all.
+pub fn latest_two(at: &[u32], values: &[Value], set: usize, lits: &[Lit]) -> LatestTwo
+    requires some { 0 < length lits.now }
+    requires set { set < 2 ^ 32 }
+    requires at { All (λ (l : _). (0 < l.var) × (l.var ≤ length at.now)) lits.now }
+    requires values { All (λ (l : _). (0 < l.var) × (l.var ≤ length values.now)) lits.now }
+    ensures { AreLatestTwo at.now values.now set lits.now result.first result.second result.bound }
+{
+    let mut found = LatestTwo {
+        first: 0,
+        second: 0,
+        bound: 0,
+        last: behind(at, values, set, lits[0]),
     };
-    is_set(marks, opposite)
+    for i in 1..lits.len() {
+        found = found.with(i, behind(at, values, set, lits[i]));
+    }
+    found
 }
 
-/// The first place of a literal that isn't false, or the length.
-fn first_not_false(marks: &[Mark], lits: &[Lit]) -> usize
-    ensures within { result ≤ length lits.now }
-    ensures below { (k : ℕ) (d : Lit) → k < result → IsFalse marks.now (slice_index_or lits.now k d) }
-    ensures here { (d : Lit) → result < length lits.now → ¬ IsFalse marks.now (slice_index_or lits.now result d) }
+/// The first decided place of the trail from a place on.
+pub fn cut_behind(marks: &[Mark], latest: &[u32], bound: usize) -> usize
+    requires some { (k : ℕ) × (bound ≤ k) × (k < length marks.now) × ((d : Mark) → (slice_index_or marks.now k d).decided ≡ true) }
+    requires latest { AreLatest marks.now latest.now }
+    requires room { length marks.now ≤ length latest.now }
+    ensures { IsFirstDecided marks.now bound result }
 {
-    for i in 0..lits.len() {
-        if !is_false(marks, lits[i]) {
-            return i;
+    let mut cut = latest[marks.len() - 1] as usize - 1;
+    while cut > bound {
+        let before = latest[cut - 1] as usize;
+        if before <= bound {
+            return cut;
         }
+        cut = before - 1;
     }
-    lits.len()
-}
-
-fn are_false_from(marks: &[Mark], lits: &[Lit], from: usize) -> bool
-    requires { from ≤ length lits.now }
-    ensures { IsTrue result ↔ ((k : ℕ) (d : Lit) → from ≤ k → k < length lits.now → IsFalse marks.now (slice_index_or lits.now k d)) }
-{
-    for i in from..lits.len() {
-        if !is_false(marks, lits[i]) {
-            return false;
-        }
-    }
-    true
-}
-
-/// Whether one literal is unset and the others are false.
-fn forces(marks: &[Mark], lits: &[Lit]) -> bool
-    requires { IsOrdered lits.now }
-    ensures { IsTrue result ↔ IsForcing marks.now lits.now }
-{
-    let i = first_not_false(marks, lits);
-    if i == lits.len() {
-        return false;
-    }
-    if is_set(marks, lits[i]) {
-        return false;
-    }
-    are_false_from(marks, lits, i + 1)
-}
-
-fn is_cut(marks: &[Mark], place: usize, lits: &[Lit]) -> bool
-    requires place { place < length marks.now }
-    requires ordered { IsOrdered lits.now }
-    ensures { IsTrue result ↔ IsCut marks.now lits.now place }
-{
-    if !marks[place].decided {
-        return false;
-    }
-    forces(&marks[..place], lits)
-}
-
-/// The first decided place before which the clause forces a literal.
-pub fn first_cut(marks: &[Mark], lits: &[Lit]) -> usize
-    requires ordered { IsOrdered lits.now }
-    requires some { (k : ℕ) × IsCut marks.now lits.now k }
-    ensures { IsFirstPlace marks.now lits.now result }
-{
-    for place in 0..marks.len() {
-        if is_cut(marks, place, lits) {
-            return place;
-        }
-    }
-    unreachable!()
+    cut
 }

@@ -10,12 +10,17 @@
 #![tactic(auto)]
 
 mod analysis;
+mod codes;
 mod cutting;
 mod laws;
+mod links;
 mod marks;
 mod solving;
+mod store;
 mod trail;
 mod values;
+mod visiting;
+mod waiting;
 
 pub use laws::{model_is_least, number_falls, run_goes_on, steps_are_bounded};
 pub use marks::Mark;

@@ -1,4 +1,5 @@
-ghost use Rattle.std.specs.Prelude.{◌≡◌, ◌-◌, ◌<◌, ◌≤◌, ◌↔◌, ℕ, length, slice_index_or, slice_set, take, All, Any, Contains, IfOk, IsTrue, vec_len};
+ghost use Rattle.std.specs.Prelude.{◌≡◌, ◌-◌, ◌/◌, ◌^◌, ◌<◌, ◌≤◌, ◌↔◌, ℕ, length, slice_index, slice_index_or, slice_set, take, All, Any, Contains, IfOk, IsTrue, vec_len};
+ghost use Rattle.sat_log.specs.Placing.{latest_for};
 ghost use Rattle.sat_log.specs.Inner.{AreApart, AreValues, value_for};
 
 use crate::marks::Mark;
@@ -60,19 +61,58 @@ pub fn is_unset(value: Value) -> bool
     }
 }
 
-/// A literal whose variable has no value.
-pub fn unset_literal(lits: &[Lit], values: &[Value]) -> Lit
-    requires within { All (λ (l : _). (0 < l.var) × (l.var ≤ length values.now)) lits.now }
-    requires some { Any (λ (l : _). slice_index_or values.now (l.var - 1) Value.Unset ≡ Value.Unset) lits.now }
-    ensures inside { Contains lits.now result }
-    ensures unset { slice_index_or values.now (result.var - 1) Value.Unset ≡ Value.Unset }
+/// A literal whose variable has no value, by its number.
+pub fn unset_code(codes: &[u32], values: &[Value]) -> u32
+    requires within { All (λ code. (2 ≤ code) × (code / 2 ≤ length values.now)) codes.now }
+    requires some { Any (λ code. slice_index_or values.now (code / 2 - 1) Value.Unset ≡ Value.Unset) codes.now }
+    ensures inside { Contains codes.now result }
+    ensures unset { slice_index_or values.now (result / 2 - 1) Value.Unset ≡ Value.Unset }
 {
-    for lit in lits {
-        if is_unset(values[(lit.var - 1) as usize]) {
-            return *lit;
+    for code in codes {
+        if is_unset(values[(*code / 2 - 1) as usize]) {
+            return *code;
         }
     }
     unreachable!()
+}
+
+/// The latest decided place behind a new mark, counted from 1.
+fn latest_after(latest: &[u32], set: usize, decided: bool) -> u32
+    requires set { set ≤ length latest.now }
+    requires few { set < 2 ^ 31 }
+    ensures { result ≡ latest_for decided set latest.now }
+{
+    if decided {
+        return set as u32 + 1;
+    }
+    if set == 0 {
+        return 0;
+    }
+    latest[set - 1]
+}
+
+/// The latest decided place of the first so many, counted from 1, or 0.
+pub fn last_decided(latest: &[u32], set: usize) -> usize
+    requires { set ≤ length latest.now }
+    ensures some { 0 < set → result ≡ slice_index latest.now (set - 1) }
+    ensures none { set ≡ 0 → result ≡ 0 }
+{
+    if set == 0 {
+        return 0;
+    }
+    latest[set - 1] as usize
+}
+
+/// Writes where the variable of a new mark stands, and the latest decided place behind it.
+pub fn stand(at: &mut Vec<u32>, latest: &mut Vec<u32>, set: usize, place: usize, decided: bool)
+    requires at { place < vec_len at.old }
+    requires latest { set < vec_len latest.old }
+    requires few { set < 2 ^ 31 }
+    ensures at { at.new.items ≡ slice_set at.old.items place set }
+    ensures latest { latest.new.items ≡ slice_set latest.old.items set (latest_for decided set latest.old.items) }
+{
+    at[place] = set as u32;
+    latest[set] = latest_after(latest.as_slice(), set, decided);
 }
 
 /// The first place of an unset variable.
@@ -88,6 +128,22 @@ pub fn first_unset(values: &[Value], low: usize) -> usize
         place += 1;
     }
     place
+}
+
+/// The first place of an unset variable from a place on, or the length.
+pub fn first_unset_or_end(values: &[Value], low: usize) -> usize
+    requires low { low ≤ length values.now }
+    requires below { (k : ℕ) → k < low → ¬ (slice_index_or values.now k Value.Unset ≡ Value.Unset) }
+    ensures within { result ≤ length values.now }
+    ensures unset { result < length values.now → slice_index_or values.now result Value.Unset ≡ Value.Unset }
+    ensures first { (k : ℕ) → k < result → ¬ (slice_index_or values.now k Value.Unset ≡ Value.Unset) }
+{
+    for place in low..values.len() {
+        if is_unset(values[place]) {
+            return place;
+        }
+    }
+    values.len()
 }
 
 /// Takes the values of the marks from a place on away.

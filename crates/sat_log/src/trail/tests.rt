@@ -160,3 +160,97 @@ fn forms_have_their_least_models(rt: HostRuntime) -> Result<(), Fail> {
     }
     Ok(())
 }
+
+#[test]
+fn the_first_decision_visits_one_clause(rt: HostRuntime) -> Result<(), Fail> {
+    let alloc = rt.alloc();
+    let mut literals = Vec::new(alloc);
+    for k in 3..1003 {
+        literals.push(k)?;
+        literals.push(k + 1)?;
+        literals.push(0)?;
+    }
+    literals.push(1)?;
+    literals.push(2)?;
+    literals.push(0)?;
+    let cnf = form(alloc, 1003, literals.as_slice())?.ok_or("form")?;
+    let mut trail = Trail::new(alloc, &cnf)?;
+    assert_eq!(rt; trail.watched.visited, 0);
+    let answer = solve(alloc, &cnf, &mut trail, 1)?;
+    assert!(rt; matches!(answer, Answer::Spent { steps: 1 }));
+    assert_eq!(rt; trail.watched.visited, 1);
+    Ok(())
+}
+
+/// The next number of a fixed sequence.
+fn draw(state: &mut u64) -> u64 {
+    *state = state
+        .wrapping_mul(6_364_136_223_846_793_005)
+        .wrapping_add(1_442_695_040_888_963_407);
+    *state >> 33
+}
+
+/// A number behind `low`, at most `high`.
+fn pick(state: &mut u64, low: u32, high: u32) -> u32 {
+    let span = u64::from(high.saturating_sub(low));
+    let offset = draw(state).checked_rem(span).unwrap_or(0);
+    low.saturating_add(1)
+        .saturating_add(u32::try_from(offset).unwrap_or(0))
+}
+
+/// The variable's literal, positive or not.
+fn signed(var: u32, positive: bool) -> i32 {
+    let number = i32::try_from(var).unwrap_or(1);
+    if positive {
+        return number;
+    }
+    number.wrapping_neg()
+}
+
+/// Adds a clause of two or three of so many variables, which ends with 0.
+fn draw_clause(literals: &mut Vec<i32>, vars: u32, state: &mut u64) -> Result<(), AllocError> {
+    let first = pick(state, 0, vars.saturating_sub(2));
+    let second = pick(state, first, vars.saturating_sub(1));
+    let third = pick(state, second, vars);
+    let signs = draw(state);
+    literals.push(signed(first, signs % 2 == 0))?;
+    literals.push(signed(second, signs / 2 % 2 == 0))?;
+    if signs / 4 % 4 > 0 {
+        literals.push(signed(third, signs / 16 % 2 == 0))?;
+    }
+    literals.push(0)?;
+    Ok(())
+}
+
+/// Clauses of two or three of so many variables, each ending with 0.
+fn drawn_form(
+    alloc: Global,
+    vars: u32,
+    count: u32,
+    state: &mut u64,
+) -> Result<Vec<i32>, AllocError> {
+    let mut literals = Vec::new(alloc);
+    for turn in 0..count {
+        draw_clause(&mut literals, vars, state)?;
+    }
+    Ok(literals)
+}
+
+#[test]
+fn derivations_of_drawn_forms_are_accepted(rt: HostRuntime) -> Result<(), Fail> {
+    let alloc = rt.alloc();
+    let mut state = 20_011u64;
+    let mut refuted = 0u32;
+    for turn in 0..400u32 {
+        let vars = 5 + turn % 16;
+        let literals = drawn_form(alloc, vars, vars * 6, &mut state)?;
+        let cnf = form(alloc, vars, literals.as_slice())?.ok_or("form")?;
+        let mut trail = Trail::new(alloc, &cnf)?;
+        if let Answer::Refuted(d) = solve(alloc, &cnf, &mut trail, 4_000_000)? {
+            assert_eq!(rt; check(alloc, &cnf, &d)?, Checked::Accepted);
+            refuted = refuted.saturating_add(1);
+        }
+    }
+    assert!(rt; refuted >= 300, "{refuted}");
+    Ok(())
+}

@@ -1,24 +1,27 @@
-use Rattle.std.proofs.Common.{sym, ◌∙◌, length, ◌≤◌, ◌<◌, arith}
-use Rattle.std.proofs.lemmas.Bool.{false≢true}
-use Rattle.sat_log.proofs.Reading.{full_values, place_more, unset_place}
+use Rattle.std.proofs.Common.{◌<◌, ◌≤◌, length, refl, arith}
+use Rattle.std.proofs.lemmas.Bool.{eqb-true, eqb-false, OnTrue_from, OnFalse_from}
+use Rattle.sat_log.specs.TrailInside.{set_marks}
+use Rattle.sat_log.proofs.Reading.{full_values, unset_place}
+use Rattle.sat_log.proofs.TrailLaws.{low_within, lowered}
 use Rattle.sat_log.proofs.trail.Trail.is_full.Goals as goal
 
-pub returns-then-is_unset-clause-some : goal.returns-then-is_unset-clause-some
-returns-then-is_unset-clause-some c =
-    let s = c.self.inside in
-    let e = c.is_unset.ensures.0 c.if-is_unset.true in
-    let h : c.loop-place.place < length s.values.items = omega (arith, s.values.ok.0) in
-    rw (← c.self.view_is) (unset_place _ _ _ _ _ c.self.invariant.told h (sym c.index.ensures ∙ e))
+pub first_unset_or_end-place-requires-clause-low : goal.first_unset_or_end-place-requires-clause-low
+first_unset_or_end-place-requires-clause-low c = rw c.as_slice.ensures.value (low_within c.self.inside c.self.invariant)
 
-pub loop-place-preserved : goal.loop-place-preserved
-loop-place-preserved c =
-    let s = c.self.inside in
-    let h : c.loop-place.place < length s.values.items = omega (arith, s.values.ok.0) in
-    λ k lt. place_more s.values.items c.loop-place.place k c.index.result.now h c.loop-place.invariant
-    (λ e. false≢true (sym c.if-is_unset.false ∙ c.is_unset.ensures.1 (c.index.ensures ∙ e))) lt
+pub first_unset_or_end-place-requires-clause-below : goal.first_unset_or_end-place-requires-clause-below
+first_unset_or_end-place-requires-clause-below c = rw c.as_slice.ensures.value c.self.invariant.trail.below
+
+pub invariant_of-self : goal.invariant_of-self
+invariant_of-self c = lowered c.self.inside c.self.invariant _ refl refl refl refl refl refl refl refl refl refl refl (rw c.as_slice.ensures.value at c.first_unset_or_end-place.ensures.first)
 
 pub returns-clause-full : goal.returns-clause-full
 returns-clause-full c =
     let s = c.self.inside in
-    let h : length s.values.items ≤ c.loop-place.place = omega (arith, s.values.ok.0) in
-    rw (← c.self.view_is) (full_values _ _ _ _ c.self.invariant.told h c.loop-place.invariant)
+    let first = rw c.as_slice.ensures.value at c.first_unset_or_end-place.ensures.first in
+    rw (← c.self.view_is) (OnTrue_from _ _ (λ e. full_values s.vars (set_marks s) s.values.items c.first_unset_or_end-place.result c.self.invariant.trail.told (omega (arith, eqb-true _ _ e, c.len.ensures, s.values.ok.0)) first))
+
+pub returns-clause-some : goal.returns-clause-some
+returns-clause-some c =
+    let s = c.self.inside in
+    let found = rw c.as_slice.ensures.value at c.first_unset_or_end-place.ensures in
+    rw (← c.self.view_is) (OnFalse_from _ _ (λ e. let low : c.first_unset_or_end-place.result < length s.values.items = omega (arith, found.within, eqb-false _ _ e, c.len.ensures, s.values.ok.0) in unset_place s.vars (set_marks s) s.values.items c.first_unset_or_end-place.result _ c.self.invariant.trail.told low (found.unset low)))
