@@ -1,0 +1,4 @@
+pub mod NameLaws
+pub mod TextLaws
+pub mod FolderLaws
+pub mod ReadLaws
