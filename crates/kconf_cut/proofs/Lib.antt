@@ -1,0 +1,4 @@
+pub mod CallLemmas
+pub mod PartLemmas
+pub mod WordLemmas
+pub mod BackLaws

@@ -1,0 +1,6 @@
+-- what contracts cite
+pub mod Words
+pub mod Laws
+-- what the readers promise each other
+pub mod Reading
+pub mod ValueMap

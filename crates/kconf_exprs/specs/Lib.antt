@@ -1,0 +1,6 @@
+-- what contracts cite
+pub mod Grammar
+-- what the readers promise each other
+pub mod Reading
+pub mod OperandParts
+pub mod Scan
