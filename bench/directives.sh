@@ -79,12 +79,20 @@ row 'grep -c' "$(best each_grep)"
 of_kind() {
     awk -v kind="$1" -v size="$2" 'BEGIN {
         if (kind == "condition") { printf "#if A"; for (i = 10; i < size; i += 5) printf " || B"; print "\n#endif" }
+        if (kind == "negated") {
+            row = sprintf("%199s", ""); gsub(/ /, "!", row)
+            printf "#if %sA", row; for (i = 204; i < size; i += 204) printf " || %sB", row; print "\n#endif"
+        }
+        if (kind == "nested") {
+            row = sprintf("%199s", ""); open = row; gsub(/ /, "(", open); gsub(/ /, ")", row)
+            printf "#if %sA", open; for (i = 400; i < size; i += 5) printf " || B"; print row "\n#endif"
+        }
         if (kind == "line") { for (i = 0; i < size; i += 4) printf "a = " }
         if (kind == "comment") { printf "/*"; for (i = 2; i < size; i += 8) print "no word" }
         if (kind == "refused") { for (i = 0; i < size; i += 6) print "#if 0" }
     }'
 }
-for kind in condition line comment refused; do
+for kind in condition negated nested line comment refused; do
     of_kind $kind 1600000 > "$data/short.c"
     of_kind $kind 16000000 > "$data/long.c"
     short=$(best "$program" "$data/short.c" "$data/short.c" "$data/short.c" "$data/short.c" "$data/short.c")

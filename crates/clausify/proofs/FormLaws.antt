@@ -1,5 +1,5 @@
 -- The clause form of a slice stands for its facts and the wish.
-use Rattle.std.proofs.Common.{◌≡◌, ℕ, ◌≤◌, ◌<◌, ◌==◌, Bool, true, false, not, ◌||◌, cond, Option, None, Some, List, [], ◌∷◌, ◌++◌, length, map, filter, position, refl, sym, ap, subst, ◌∙◌, arith}
+use Rattle.std.proofs.Common.{◌≡◌, ℕ, ◌≤◌, ◌<◌, ◌==◌, Bool, true, false, not, ◌&&◌, ◌||◌, cond, Option, None, Some, List, [], ◌∷◌, ◌++◌, length, map, filter, position, refl, sym, ap, subst, ◌∙◌, arith}
 use Rattle.std.proofs.lemmas.Grind.{common_steps}
 use Rattle.std.proofs.lemmas.Bool.{false≢true}
 use Rattle.std.proofs.lemmas.Bool.Decides.{nat_tests}
@@ -17,18 +17,19 @@ use Rattle.ut_logic.specs.Assign.{is_in}
 use Rattle.ut_logic.specs.Item.{item_eq}
 use Rattle.ut_logic.specs.ItemIdentity.{item_eq-Decides}
 use Rattle.ut_logic.specs.Facts.{IsDefined, Meets as MeetsFact}
-use Rattle.ut_logic.specs.Truth.{truths, all_true, mentioned, together}
+use Rattle.ut_logic.specs.Truth.{truth, truths, all_true, mentioned, together}
 use Rattle.ut_logic.specs.Clauses.{AreWithin, IsModel}
 use Rattle.clausify.specs.declared.stage.Stage.{Stage}
 use Rattle.clausify.specs.declared.stage.Stage.TheVariants.{Symbols, Starts, Blocks, States}
-use Rattle.clausify.specs.ClauseForm.{HaveVariables, var_at, var_of}
-use Rattle.clausify.specs.Order.{holds_in, defines_in, form_over, mentioned_in, items_of, outers_of, is_outer, AreListed, IsWishOver}
+use Rattle.clausify.specs.ClauseForm.{var_at, var_of}
+use Rattle.clausify.specs.Order.{holds_in, defines_in, form_with, mentioned_in, items_of, outers_of, is_outer, AreListed, AreOver, IsWishOver}
 use Rattle.clausify.specs.Tidy.{AreTidy}
 use Rattle.clausify.specs.Meaning.{items_under, AreMet, StandsFor}
 use Rattle.clausify.proofs.InSet.{is_in-any}
 use Rattle.clausify.proofs.Meets.{Meets, Within}
 use Rattle.clausify.proofs.Held.{Held}
 use Rattle.clausify.proofs.Models.{tidy_meets, meets_tidy, model_from_meets, meets_from_model, tidy_are_within}
+use Rattle.clausify.proofs.WaysLaws.{and_first, and_second, and_both}
 use Rattle.clausify.proofs.OrderLaws.{AllMetIn, Whole, holds_whole}
 
 -- ---- the variables of items
@@ -48,7 +49,7 @@ found_below p (x ∷ xs) h = by (p x) refl h (found_below p xs)
     by true e g r = grind (arith, common_steps, nat_tests, e)
     by false e g r = grind (arith, common_steps, nat_tests, e, r g)
 
-has_variable : (items : List Item) (i : Item) → is_in items i ≡ true → 0 < var_of items i
+pub has_variable : (items : List Item) (i : Item) → is_in items i ≡ true → 0 < var_of items i
 has_variable items i h = by (found_below (item_eq i) items (is_in-any items i ∙ h))
   where
     by : position_or_len (item_eq i) items < length items → 0 < var_of items i
@@ -71,6 +72,14 @@ in_filter (x ∷ xs) i o h = by (item_eq x i) refl h (in_filter xs i o)
     by true e g r = let kept : is_outer x ≡ true = ap is_outer ((item_eq-Decides x i).0 e) ∙ o in
         ap (λ b. is_in (cond b (x ∷ filter is_outer xs) (filter is_outer xs)) i) kept ∙ ap (λ b. b || is_in (filter is_outer xs) i) e
     by false e g r = second (is_outer x) (filter is_outer xs) (r g)
+
+true-append : (v : Item → Bool) (fs gs : List Formula) → all_true (truths v (fs ++ gs)) ≡ (all_true (truths v fs) && all_true (truths v gs))
+true-append v [] gs = refl
+true-append v (f ∷ fs) gs = ap (λ b. truth v f && b) (true-append v fs gs) ∙ together_and (truth v f) (all_true (truths v fs)) (all_true (truths v gs))
+  where
+    together_and : (a b c : Bool) → (a && (b && c)) ≡ ((a && b) && c)
+    together_and true b c = refl
+    together_and false b c = refl
 
 -- ---- what all stages ask of a fact
 
@@ -114,86 +123,70 @@ module _ (items : List Item) (w : ℕ → Bool) where
   all_spread stage [] m = tt
   all_spread stage (f ∷ fs) m = (spread (items_under items w) f stage f.node (m.0.held, recursion_from_All (IsDefined (items_under items w)) f.defines m.0.defined), all_spread stage fs m.1)
 
-  pub met_from_whole : (fs : List Fact) (wish : List Formula) → Whole (var_of items) (length items) (var_of-le items) w fs wish → AreMet (items_under items w) fs wish
-  met_from_whole fs wish q = record {
-    facts_met = All-from_recursion (MeetsFact (items_under items w)) fs (all_gathered fs q.0.0.0.0 q.0.0.0.1 q.0.0.1 q.0.1);
-    wish_met = q.1;
+  pub met_from_whole : (held : List Formula) (fs : List Fact) (wish : List Formula) → Whole (var_of items) (length items) (var_of-le items) w held fs wish → AreMet (items_under items w) fs (held ++ wish)
+  met_from_whole held fs wish q = record {
+    facts_met = All-from_recursion (MeetsFact (items_under items w)) fs (all_gathered fs q.0.1.0.0.0 q.0.1.0.0.1 q.0.1.0.1 q.0.1.1);
+    wish_met = true-append (items_under items w) held wish ∙ and_both (all_true (truths (items_under items w) held)) (all_true (truths (items_under items w) wish)) q.0.0 q.1;
   }
 
-  pub whole_from_met : (fs : List Fact) (wish : List Formula) → AreMet (items_under items w) fs wish → Whole (var_of items) (length items) (var_of-le items) w fs wish
-  whole_from_met fs wish m =
+  pub whole_from_met : (held : List Formula) (fs : List Fact) (wish : List Formula) → AreMet (items_under items w) fs (held ++ wish) → Whole (var_of items) (length items) (var_of-le items) w held fs wish
+  whole_from_met held fs wish m =
       let each = recursion_from_All (MeetsFact (items_under items w)) fs m.facts_met in
-      ((((all_spread Symbols fs each, all_spread Starts fs each), all_spread Blocks fs each), all_spread States fs each), m.wish_met)
+      let all = sym (true-append (items_under items w) held wish) ∙ m.wish_met in (
+        (
+          and_first (all_true (truths (items_under items w) held)) (all_true (truths (items_under items w) wish)) all,
+          (((all_spread Symbols fs each, all_spread Starts fs each), all_spread Blocks fs each), all_spread States fs each),
+        ),
+        and_second (all_true (truths (items_under items w) held)) (all_true (truths (items_under items w) wish)) all,
+      )
 
 -- ---- the whole
 
-module _ (items : List Item) (fs : List Fact) (wish : List Formula) (members : (i : Item) → is_in items i ≡ is_in (items_of fs ++ outers_of wish) i) (listed : AreListed fs) (over : IsWishOver fs wish) where
-  facts_have : HaveVariables (var_of items) (mentioned_in fs)
-  facts_have i h = has_variable items i (members i ∙ (list_any-append (λ x. item_eq x i) (items_of fs) (outers_of wish) ∙ ap (λ b. b || is_in (outers_of wish) i) (listed i h)))
+-- all that is mentioned is among the items
+pub record AreAmong (items : List Item) (held : List Formula) (fs : List Fact) (wish : List Formula) : Type 0 where
+  pub of_held : AreOver items held
+  pub of_facts : (i : Item) → is_in (mentioned_in fs) i ≡ true → is_in items i ≡ true
+  pub of_wish : AreOver items wish
 
-  wish_have : HaveVariables (var_of items) (together (map mentioned wish))
-  wish_have i h = has_variable items i (members i ∙ (list_any-append (λ x. item_eq x i) (items_of fs) (outers_of wish) ∙ by (is_in (items_of fs) i) (over i h)))
-    where
-      by : (b : Bool) → (b || is_outer i) ≡ true → (b || is_in (outers_of wish) i) ≡ true
-      by true g = refl
-      by false g = in_filter (together (map mentioned wish)) i g h
+module _ (items : List Item) (held : List Formula) (fs : List Fact) (wish : List Formula) (among : AreAmong items held fs wish) where
+  held_whole : Held (record { vars = length items; clauses = [] }) (form_with items held fs wish) (λ w. Whole (var_of items) (length items) (var_of-le items) w held fs wish)
+  held_whole = holds_whole (var_of items) (length items) (var_of-le items) held fs wish (record { vars = length items; clauses = [] }) (omega arith)
+      (λ i h. has_variable items i (among.of_held i h)) (λ i h. has_variable items i (among.of_facts i h)) (λ i h. has_variable items i (among.of_wish i h))
 
-  held : Held (record { vars = length items; clauses = [] }) (form_over items fs wish) (λ w. Whole (var_of items) (length items) (var_of-le items) w fs wish)
-  held = holds_whole (var_of items) (length items) (var_of-le items) fs wish (record { vars = length items; clauses = [] }) (omega arith) facts_have wish_have
+  written : Within (form_with items held fs wish).vars (form_with items held fs wish).clauses
+  written = subst (Within (form_with items held fs wish).vars) (sym held_whole.is) held_whole.within
 
-  written : Within (form_over items fs wish).vars (form_over items fs wish).clauses
-  written = subst (Within (form_over items fs wish).vars) (sym held.is) held.within
+  pub named : length items ≤ (form_with items held fs wish).vars
+  named = held_whole.upward
 
-  pub named : length items ≤ (form_over items fs wish).vars
-  named = held.upward
+  pub in_range : (cs : List (List Lit)) → AreTidy (form_with items held fs wish).clauses cs → AreWithin (form_with items held fs wish).vars cs
+  in_range cs t = tidy_are_within (form_with items held fs wish).vars (form_with items held fs wish).clauses cs t written
 
-  pub in_range : (cs : List (List Lit)) → AreTidy (form_over items fs wish).clauses cs → AreWithin (form_over items fs wish).vars cs
-  in_range cs t = tidy_are_within (form_over items fs wish).vars (form_over items fs wish).clauses cs t written
+  meets_more : (w : ℕ → Bool) (cs : List (List Lit)) → AreTidy (form_with items held fs wish).clauses cs → IsModel w cs → Meets w held_whole.more
+  meets_more w cs t m = subst (Meets w) held_whole.is (meets_tidy w (form_with items held fs wish).clauses cs t (meets_from_model w cs m))
 
-  meets_more : (w : ℕ → Bool) (cs : List (List Lit)) → AreTidy (form_over items fs wish).clauses cs → IsModel w cs → Meets w held.more
-  meets_more w cs t m = subst (Meets w) held.is (meets_tidy w (form_over items fs wish).clauses cs t (meets_from_model w cs m))
-
-  pub stands_for : (cs : List (List Lit)) → AreTidy (form_over items fs wish).clauses cs → StandsFor items fs wish (form_over items fs wish).vars cs
+  pub stands_for : (cs : List (List Lit)) → AreTidy (form_with items held fs wish).clauses cs → StandsFor items fs (held ++ wish) (form_with items held fs wish).vars cs
   stands_for cs t = record {
-    sound = λ w m. met_from_whole items w fs wish (held.says w (meets_more w cs t m));
-    complete = λ w m. let u = held.some w (whole_from_met items w fs wish m) in
-        (u.0, u.1, model_from_meets u.0 cs (tidy_meets u.0 (form_over items fs wish).clauses cs t (subst (Meets u.0) (sym held.is) u.2)));
-    one = λ w u m k a. held.one w u (meets_more w cs t m) (meets_more u cs t k) a;
+    sound = λ w m. met_from_whole items w held fs wish (held_whole.says w (meets_more w cs t m));
+    complete = λ w m. let u = held_whole.some w (whole_from_met items w held fs wish m) in
+        (u.0, u.1, model_from_meets u.0 cs (tidy_meets u.0 (form_with items held fs wish).clauses cs t (subst (Meets u.0) (sym held_whole.is) u.2)));
+    one = λ w u m k a. held_whole.one w u (meets_more w cs t m) (meets_more u cs t k) a;
   }
 
--- ---- as the code has it
+-- ---- what is listed is among the items of a form
 
--- what facts and wish mention has variables
-pub record Known (vars : List Item) (fs : List Fact) (wish : List Formula) : Type 0 where
-  pub facts : HaveVariables (var_of vars) (mentioned_in fs)
-  pub wishes : HaveVariables (var_of vars) (together (map mentioned wish))
+listed_among : (items : List Item) (fs : List Fact) (wish : List Formula) → ((i : Item) → is_in items i ≡ is_in (items_of fs ++ outers_of wish) i) → (i : Item) → is_in (items_of fs) i ≡ true → is_in items i ≡ true
+listed_among items fs wish members i h = members i ∙ (list_any-append (λ x. item_eq x i) (items_of fs) (outers_of wish) ∙ ap (λ b. b || is_in (outers_of wish) i) h)
 
-pub known : (vars : List Item) (fs gs hs : List Fact) (wish : List Formula) → gs ≡ fs → hs ≡ fs
-    → ((i : Item) → is_in vars i ≡ is_in (items_of gs ++ outers_of wish) i) → AreListed fs → IsWishOver fs wish → Known vars hs wish
-known vars fs gs hs wish same_g same_h members listed over =
-    let m : (i : Item) → is_in vars i ≡ is_in (items_of fs ++ outers_of wish) i = λ i. members i ∙ ap (λ (ks : List Fact). is_in (items_of ks ++ outers_of wish) i) same_g in
-    subst (λ (ks : List Fact). Known vars ks wish) (sym same_h) (record { facts = facts_have vars fs wish m listed over; wishes = wish_have vars fs wish m listed over })
+pub facts_among : (items : List Item) (fs : List Fact) (wish : List Formula) → ((i : Item) → is_in items i ≡ is_in (items_of fs ++ outers_of wish) i) → AreListed fs → (i : Item) → is_in (mentioned_in fs) i ≡ true → is_in items i ≡ true
+facts_among items fs wish members listed i h = listed_among items fs wish members i (listed i h)
 
--- what is asked of a clause form, and what it is
-pub record Finished (items : List Item) (fs : List Fact) (wish : List Formula) (count : ℕ) (cs : List (List Lit)) : Type 0 where
-  pub named_by : length items ≤ count
-  pub within : AreWithin count cs
-  pub vars : count ≡ (form_over items fs wish).vars
-  pub tidy : AreTidy (form_over items fs wish).clauses cs
-  pub means : StandsFor items fs wish count cs
+pub held_among : (items : List Item) (fs : List Fact) (held wish : List Formula) → ((i : Item) → is_in items i ≡ is_in (items_of fs ++ outers_of wish) i) → AreOver (items_of fs) held → AreOver items held
+held_among items fs held wish members over i h = listed_among items fs wish members i (over i h)
 
-pub finished : (vars items : List Item) (fs gs hs : List Fact) (wish : List Formula) (count : ℕ) (cs : List (List Lit))
-    → gs ≡ fs → hs ≡ fs → ((i : Item) → is_in vars i ≡ is_in (items_of gs ++ outers_of wish) i) → count ≡ (form_over vars hs wish).vars → AreTidy (form_over vars hs wish).clauses cs
-    → items ≡ vars → AreListed fs → IsWishOver fs wish → Finished items fs wish count cs
-finished vars items fs gs hs wish count cs same_g same_h members same_count tidy same_items listed over =
-    let m : (i : Item) → is_in vars i ≡ is_in (items_of fs ++ outers_of wish) i = λ i. members i ∙ ap (λ (ks : List Fact). is_in (items_of ks ++ outers_of wish) i) same_g in
-    let t : AreTidy (form_over vars fs wish).clauses cs = subst (λ (ks : List Fact). AreTidy (form_over vars ks wish).clauses cs) same_h tidy in
-    let n : count ≡ (form_over vars fs wish).vars = same_count ∙ ap (λ (ks : List Fact). (form_over vars ks wish).vars) same_h in
-    let base : Finished vars fs wish (form_over vars fs wish).vars cs = record {
-      named_by = named vars fs wish m listed over;
-      within = in_range vars fs wish m listed over cs t;
-      vars = refl;
-      tidy = t;
-      means = stands_for vars fs wish m listed over cs t;
-    } in
-    subst (λ (xs : List Item). Finished xs fs wish count cs) (sym same_items) (subst (λ (k : ℕ). Finished vars fs wish k cs) (sym n) base)
+pub wish_among : (items : List Item) (fs : List Fact) (wish : List Formula) → ((i : Item) → is_in items i ≡ is_in (items_of fs ++ outers_of wish) i) → IsWishOver fs wish → AreOver items wish
+wish_among items fs wish members over i h = members i ∙ (list_any-append (λ x. item_eq x i) (items_of fs) (outers_of wish) ∙ by (is_in (items_of fs) i) (over i h))
+  where
+    by : (b : Bool) → (b || is_outer i) ≡ true → (b || is_in (outers_of wish) i) ≡ true
+    by true g = refl
+    by false g = in_filter (together (map mentioned wish)) i g h

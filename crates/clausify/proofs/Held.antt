@@ -45,7 +45,7 @@ then_held s t r P Q reads f g = record {
 pub held_as : (s t : Form) (P Q : (ℕ → Bool) → Type 0) → ((w : ℕ → Bool) → P w → Q w) → ((w : ℕ → Bool) → Q w → P w) → Held s t P → Held s t Q
 held_as s t P Q to from g = record { more = g.more; is = g.is; upward = g.upward; within = g.within; says = λ w m. to w (g.says w m); one = g.one; some = λ w q. g.some w (from w q) }
 
--- clauses behind those of inner nodes
+-- clauses after those of inner nodes
 pub held_after : (s t : Form) (cs : List (List Lit)) (P Q : (ℕ → Bool) → Type 0) → Grows s t P → Within t.vars cs
     → ((w : ℕ → Bool) → P w → Meets w cs → Q w) → ((w : ℕ → Bool) → P w → Q w → Meets w cs) → ((w u : ℕ → Bool) → Agree s.vars w u → Q w → Q u)
     → Held s (with_clauses t cs) Q

@@ -1,6 +1,6 @@
 pub mod InTurn
 pub mod InSet
-pub mod PlaceLaws
+pub mod FactLaws
 pub mod Kept
 pub mod TidyLaws
 pub mod Meets
@@ -13,5 +13,8 @@ pub mod Models
 pub mod NumberedLaws
 pub mod Shifts
 pub mod FormLaws
+pub mod OverLaws
 pub mod KnownLaws
 pub mod SettledLaws
+pub mod BegunLaws
+pub mod RenameLaws

@@ -1,18 +1,14 @@
 -- The variable of an item is one more than its place among distinct items.
-use Rattle.std.proofs.Common.{◌≡◌, ℕ, ◌+◌, ◌<◌, Bool, true, false, cond, None, Some, List, length, get_or, set, position, refl, sym, ap, ◌∙◌, ◌⊎◌, inl, inr, ⊎_elim, ◌≢◌, arith, nat_lt}
+use Rattle.std.proofs.Common.{◌≡◌, ℕ, ◌+◌, ◌<◌, ◌≤◌, Bool, true, false, cond, None, Some, List, length, get_or, position, refl, sym, ap, ◌∙◌, arith, nat_lt}
 use Rattle.std.proofs.lemmas.Bool.Decides.{nat_tests}
-use Rattle.std.proofs.lemmas.Grind.{common_steps, get_or-set_at}
-use Rattle.std.proofs.lemmas.Bool.{cases_lt}
-use Rattle.std.proofs.lemmas.List.{get_or-set_other, length-set}
+use Rattle.std.proofs.lemmas.Grind.{common_steps}
 use Rattle.std.proofs.lemmas.List.Sums.{position_or_len_is}
 use Rattle.std.specs.List.{position_or_len}
 use Rattle.ut_logic.specs.declared.item.Item.{Item}
-use Rattle.ut_logic.specs.declared.item.Item.TheVariants.{SymY}
 use Rattle.ut_logic.specs.Item.{item_eq}
 use Rattle.ut_logic.specs.ItemIdentity.{item_eq-Decides}
 use Rattle.ut_logic.specs.Variables.{AreDistinct}
 use Rattle.clausify.specs.ClauseForm.{var_at, var_of}
-use Rattle.clausify.specs.Numbered.{AreVariables}
 
 pub placed : (xs : List Item) (k : ℕ) (d x : Item) → AreDistinct xs → k < length xs → get_or xs k d ≡ x → k + 1 ≡ var_of xs x
 placed xs k d x distinct h e = sym (ap var_at found)
@@ -33,16 +29,6 @@ placed xs k d x distinct h e = sym (ap var_at found)
     found : position (item_eq x) xs ≡ Some k
     found = ap (λ j. cond (nat_lt j (length xs)) (Some j) None) first ∙ ap (λ b. cond b (Some k) None) below
 
--- the variable of one more symbol is noted
-pub noted : (items : List Item) (vars : List ℕ) (a x : ℕ) → AreVariables items vars → x ≡ var_of items (SymY a) → AreVariables items (set vars a x)
-noted items vars a x v e b d lt = elim (cases_lt b a) [
-  | inl before ↦ other (λ g. omega (arith, before, g))
-  | inr past ↦ elim (cases_lt a b) [
-    | inl before ↦ other (λ g. omega (arith, before, g))
-    | inr both ↦ let same : b ≡ a = omega (arith, past, both) in
-        inr (get_or-set_at vars a b x d same (omega (arith, lt, same, length-set vars a x)) ∙ (e ∙ ap (λ j. var_of items (SymY j)) (sym same)))
-  ]
-]
-  where
-    other : b ≢ a → (get_or (set vars a x) b d ≡ 0) ⊎ (get_or (set vars a x) b d ≡ var_of items (SymY b))
-    other differ = ⊎_elim (λ z. inl (get_or-set_other vars a b x d differ ∙ z)) (λ z. inr (get_or-set_other vars a b x d differ ∙ z)) (v b d (omega (arith, lt, length-set vars a x)))
+-- a test of order by the order
+pub not_below : (k n : ℕ) → n ≤ k → nat_lt k n ≡ false
+not_below k n h = grind (arith, nat_tests, common_steps, h)

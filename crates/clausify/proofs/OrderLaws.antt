@@ -18,7 +18,7 @@ use Rattle.ut_logic.proofs.MentionLaws.{mentioned_at, mentioned_out}
 use Rattle.clausify.specs.declared.stage.Stage.{Stage}
 use Rattle.clausify.specs.declared.stage.Stage.TheVariants.{Symbols, Starts, Blocks, States}
 use Rattle.clausify.specs.Form.{Form}
-use Rattle.clausify.specs.ClauseForm.{HaveVariables, pos, neg, literal, literals, hold, hold_each, defined, defined_at, defined_each, same_behind, all_clauses, any_clauses, same_clauses}
+use Rattle.clausify.specs.ClauseForm.{HaveVariables, pos, neg, literal, literals, hold, hold_each, defined, defined_at, defined_each, same_after, all_clauses, any_clauses, same_clauses}
 use Rattle.clausify.specs.Order.{holds_in, defines_in, held_in, defined_in, staged, form_of, mentioned_of, mentioned_in}
 use Rattle.clausify.specs.Meaning.{Agree}
 use Rattle.clausify.proofs.Meets.{Meets, lits_true, all_within, any_within, same_within}
@@ -86,7 +86,7 @@ module _ (at : Item → ℕ) (n : ℕ) (known : (i : Item) → at i ≤ n) where
       made : Makes s (literal at f s) (λ w. truth (under w) f)
       made = (works at n known f v).literal s h
 
-      by_literal : Held s (same_behind x (literal at f s)) (λ w. w x ≡ truth (under w) f)
+      by_literal : Held s (same_after x (literal at f s)) (λ w. w x ≡ truth (under w) f)
       by_literal = held_after s (literal at f s).1 (same_clauses x (literal at f s).0) (λ w. value_of w (literal at f s).0 ≡ truth (under w) f) _ made.grows (same_within (literal at f s).1.vars x (literal at f s).0 (wide (literal at f s).1 made.grows.upward) made.within)
           (λ w p m. same_if_met w x (literal at f s).0 m ∙ p) (λ w p q. met_if_same w x (literal at f s).0 (q ∙ sym p)) reads
 
@@ -177,23 +177,41 @@ module _ (at : Item → ℕ) (n : ℕ) (known : (i : Item) → at i ≤ n) where
       let t = defined_each at (defined_in stage f) (hold_each at (held_in stage f) s) in
       then_held s t _ (λ w. MetIn stage w f) (λ w. AllMetIn stage w fs) (λ w u a q. reads_stage s.vars stage fs h w u a q) one (holds_stage stage fs t (omega (arith, one.upward, h)) (have_back at (mentioned_of f) (mentioned_in fs) v))
 
-  -- ---- all stages and the wish
+  -- ---- all stages, what is held before them, and the wish
 
-  abbrev pub Whole : (ℕ → Bool) → List Fact → List Formula → Type 0
-  Whole w fs wish = ((((AllMetIn Symbols w fs × AllMetIn Starts w fs) × AllMetIn Blocks w fs) × AllMetIn States w fs) × (all_true (truths (under w) wish) ≡ true))
+  abbrev pub Stages : (ℕ → Bool) → List Fact → Type 0
+  Stages w fs = ((AllMetIn Symbols w fs × AllMetIn Starts w fs) × AllMetIn Blocks w fs) × AllMetIn States w fs
 
-  pub holds_whole : (fs : List Fact) (wish : List Formula) (s : Form) → n ≤ s.vars → HaveVariables at (mentioned_in fs) → HaveVariables at (together (map mentioned wish)) → Held s (form_of at fs wish s) (λ w. Whole w fs wish)
-  holds_whole fs wish s h v k =
+  reads_stages : (m : ℕ) (fs : List Fact) → n ≤ m → (w u : ℕ → Bool) → Agree m w u → Stages w fs → Stages u fs
+  reads_stages m fs h w u a q = (((reads_stage m Symbols fs h w u a q.0.0.0, reads_stage m Starts fs h w u a q.0.0.1), reads_stage m Blocks fs h w u a q.0.1), reads_stage m States fs h w u a q.1)
+
+  reads_each : (m : ℕ) (gs : List Formula) → n ≤ m → (w u : ℕ → Bool) → Agree m w u → all_true (truths (under w) gs) ≡ true → all_true (truths (under u) gs) ≡ true
+  reads_each m gs h w u a q = ap all_true (sym (all_alike at n known m w u gs h a)) ∙ q
+
+  pub holds_stages : (fs : List Fact) (s : Form) → n ≤ s.vars → HaveVariables at (mentioned_in fs)
+      → Held s (staged at States fs (staged at Blocks fs (staged at Starts fs (staged at Symbols fs s)))) (λ w. Stages w fs)
+  holds_stages fs s h v =
       let s1 = staged at Symbols fs s in
       let s2 = staged at Starts fs s1 in
       let s3 = staged at Blocks fs s2 in
-      let s4 = staged at States fs s3 in
       let a = holds_stage Symbols fs s h v in
       let b = holds_stage Starts fs s1 (omega (arith, a.upward, h)) v in
       let c = holds_stage Blocks fs s2 (omega (arith, a.upward, b.upward, h)) v in
       let d = holds_stage States fs s3 (omega (arith, a.upward, b.upward, c.upward, h)) v in
-      let e = holds_each wish s4 (omega (arith, a.upward, b.upward, c.upward, d.upward, h)) k in
-      then_held s s4 _ _ (λ w. all_true (truths (under w) wish) ≡ true) (λ w u g q. ap all_true (sym (all_alike at n known s.vars w u wish h g)) ∙ q)
-      (then_held s s3 _ _ (λ w. AllMetIn States w fs) (λ w u g q. reads_stage s.vars States fs h w u g q)
+      then_held s s3 _ _ (λ w. AllMetIn States w fs) (λ w u g q. reads_stage s.vars States fs h w u g q)
       (then_held s s2 _ _ (λ w. AllMetIn Blocks w fs) (λ w u g q. reads_stage s.vars Blocks fs h w u g q)
-      (then_held s s1 _ (λ w. AllMetIn Symbols w fs) (λ w. AllMetIn Starts w fs) (λ w u g q. reads_stage s.vars Starts fs h w u g q) a b) c) d) e
+      (then_held s s1 _ (λ w. AllMetIn Symbols w fs) (λ w. AllMetIn Starts w fs) (λ w u g q. reads_stage s.vars Starts fs h w u g q) a b) c) d
+
+  abbrev pub Whole : (ℕ → Bool) → List Formula → List Fact → List Formula → Type 0
+  Whole w held fs wish = ((all_true (truths (under w) held) ≡ true) × Stages w fs) × (all_true (truths (under w) wish) ≡ true)
+
+  pub holds_whole : (held : List Formula) (fs : List Fact) (wish : List Formula) (s : Form) → n ≤ s.vars → HaveVariables at (together (map mentioned held)) → HaveVariables at (mentioned_in fs) → HaveVariables at (together (map mentioned wish))
+      → Held s (form_of at fs wish (hold_each at held s)) (λ w. Whole w held fs wish)
+  holds_whole held fs wish s h k v l =
+      let s1 = hold_each at held s in
+      let s2 = staged at States fs (staged at Blocks fs (staged at Starts fs (staged at Symbols fs s1))) in
+      let a = holds_each held s h k in
+      let b = holds_stages fs s1 (omega (arith, a.upward, h)) v in
+      let c = holds_each wish s2 (omega (arith, a.upward, b.upward, h)) l in
+      then_held s s2 _ (λ w. (all_true (truths (under w) held) ≡ true) × Stages w fs) (λ w. all_true (truths (under w) wish) ≡ true) (λ w u g q. reads_each s.vars wish h w u g q)
+      (then_held s s1 _ (λ w. all_true (truths (under w) held) ≡ true) (λ w. Stages w fs) (λ w u g q. reads_stages s.vars fs h w u g q) a b) c

@@ -11,25 +11,25 @@ use Rattle.ut_logic.specs.declared.facts.Definition.{Definition}
 use Rattle.ut_logic.specs.declared.facts.Fact.{Fact}
 use Rattle.clausify.specs.declared.stage.Stage.{Stage}
 use Rattle.clausify.specs.Form.{Form}
-use Rattle.clausify.specs.ClauseForm.{pos, neg, all_clauses, any_clauses, same_clauses, with_clauses, define, define_all, define_any, negate_first, joined, asserted, asserted_any, Ways, ways_step, ways, literal, literals, hold, hold_each, all_behind, any_behind, same_behind, defined_at, defined, defined_each}
+use Rattle.clausify.specs.ClauseForm.{pos, neg, all_clauses, any_clauses, same_clauses, with_clauses, define, define_all, define_any, negate_first, joined, asserted, asserted_any, Ways, ways_step, ways, literal, literals, hold, hold_each, all_after, any_after, same_after, defined_at, defined, defined_each}
 use Rattle.clausify.specs.Order.{holds_in, defines_in, held_in, defined_in, staged}
 use Rattle.clausify.specs.Tidy.{AreTidy}
-use Rattle.clausify.specs.Draft.{behind, IsDraft}
+use Rattle.clausify.specs.Draft.{after, IsDraft}
 
--- what was made, and the form behind the clauses
+-- what was made, and the form after the clauses
 abbrev ahead : {A : Type 0} → List (List Lit) → A × Form → A × Form
-ahead front r = (r.0, behind front r.1)
+ahead front r = (r.0, after front r.1)
 
-move_clauses : (front : List (List Lit)) (s : Form) (cs : List (List Lit)) → with_clauses (behind front s) cs ≡ behind front (with_clauses s cs)
+move_clauses : (front : List (List Lit)) (s : Form) (cs : List (List Lit)) → with_clauses (after front s) cs ≡ after front (with_clauses s cs)
 move_clauses front s cs = ap (λ (ks : List (List Lit)). record { vars = s.vars; clauses = ks }) (append_assoc front s.clauses cs)
 
-move_define : (front : List (List Lit)) (s : Form) (cs : ℕ → List (List Lit)) → define (behind front s) cs ≡ ahead front (define s cs)
+move_define : (front : List (List Lit)) (s : Form) (cs : ℕ → List (List Lit)) → define (after front s) cs ≡ ahead front (define s cs)
 move_define front s cs = ap (λ (ks : List (List Lit)). (pos (s.vars + 1), record { vars = s.vars + 1; clauses = ks })) (append_assoc front s.clauses (cs (s.vars + 1)))
 
 -- both ways of a formula do the same whatever stands in front
 record Shifts (m : Ways) : Type 0 where
-  pub literal : (front : List (List Lit)) (s : Form) → m.literal (behind front s) ≡ ahead front (m.literal s)
-  pub held : (front : List (List Lit)) (s : Form) → m.held (behind front s) ≡ behind front (m.held s)
+  pub literal : (front : List (List Lit)) (s : Form) → m.literal (after front s) ≡ ahead front (m.literal s)
+  pub held : (front : List (List Lit)) (s : Form) → m.held (after front s) ≡ after front (m.held s)
 
 neither : (a b : Bool) → (a || b) ≡ false → (a ≡ false) × (b ≡ false)
 neither true b h = (grind (arith, common_steps, h), grind (arith, common_steps, h))
@@ -42,12 +42,12 @@ module _ (at : Item → ℕ) where
   abbrev of : List Each → List Formula
   of es = map (λ e. e.0) es
 
-  each_shifts : (es : List Each) (front : List (List Lit)) (s : Form) → literals at (of es) (behind front s) ≡ ahead front (literals at (of es) s)
+  each_shifts : (es : List Each) (front : List (List Lit)) (s : Form) → literals at (of es) (after front s) ≡ ahead front (literals at (of es) s)
   each_shifts [] front s = refl
   each_shifts (e ∷ es) front s = let r = literal at e.0 s in
       ap (λ (q : Lit × Form). joined q.0 (literals at (of es) q.1)) (e.1.literal front s) ∙ ap (λ (q : List Lit × Form). joined r.0 q) (each_shifts es front r.1)
 
-  held_shift : (es : List Each) (front : List (List Lit)) (s : Form) → hold_each at (of es) (behind front s) ≡ behind front (hold_each at (of es) s)
+  held_shift : (es : List Each) (front : List (List Lit)) (s : Form) → hold_each at (of es) (after front s) ≡ after front (hold_each at (of es) s)
   held_shift [] front s = refl
   held_shift (e ∷ es) front s = ap (λ (t : Form). hold_each at (of es) t) (e.1.held front s) ∙ held_shift es front (hold at e.0 s)
 
@@ -81,24 +81,24 @@ module _ (at : Item → ℕ) where
   shifts = ind-Formula (λ f. Shifts (ways at f))
       (λ x y is. subst Shifts (sym (fold-roll-Formula Ways (ways_step at) x)) (subst (λ (z : Formula-F Formula). Shifts (ways_step at (map-Formula Formula Ways (ways at) z))) is (step y)))
 
-  literals_move : (fs : List Formula) (front : List (List Lit)) (s : Form) → literals at fs (behind front s) ≡ ahead front (literals at fs s)
+  literals_move : (fs : List Formula) (front : List (List Lit)) (s : Form) → literals at fs (after front s) ≡ ahead front (literals at fs s)
   literals_move [] front s = refl
   literals_move (f ∷ fs) front s = let r = literal at f s in
       ap (λ (q : Lit × Form). joined q.0 (literals at fs q.1)) ((shifts f).literal front s) ∙ ap (λ (q : List Lit × Form). joined r.0 q) (literals_move fs front r.1)
 
-  holds_move : (fs : List Formula) (front : List (List Lit)) (s : Form) → hold_each at fs (behind front s) ≡ behind front (hold_each at fs s)
+  holds_move : (fs : List Formula) (front : List (List Lit)) (s : Form) → hold_each at fs (after front s) ≡ after front (hold_each at fs s)
   holds_move [] front s = refl
   holds_move (f ∷ fs) front s = ap (λ (t : Form). hold_each at fs t) ((shifts f).held front s) ∙ holds_move fs front (hold at f s)
 
-  defined_move : (x : ℕ) (f : Formula) (y : Formula-F Formula) (front : List (List Lit)) (s : Form) → defined_at at x f y (behind front s) ≡ behind front (defined_at at x f y s)
+  defined_move : (x : ℕ) (f : Formula) (y : Formula-F Formula) (front : List (List Lit)) (s : Form) → defined_at at x f y (after front s) ≡ after front (defined_at at x f y s)
   defined_move x f Formula-F.Yes front s = move_clauses front s ((pos x ∷ []) ∷ [])
   defined_move x f Formula-F.No front s = move_clauses front s ((neg x ∷ []) ∷ [])
-  defined_move x f (Formula-F.Is item) front s = let r = literal at f s in ap (same_behind x) ((shifts f).literal front s) ∙ move_clauses front r.1 (same_clauses x r.0)
-  defined_move x f (Formula-F.Neg g) front s = let r = literal at f s in ap (same_behind x) ((shifts f).literal front s) ∙ move_clauses front r.1 (same_clauses x r.0)
-  defined_move x f (Formula-F.AllOf fs) front s = let r = literals at fs s in ap (all_behind x) (literals_move fs front s) ∙ move_clauses front r.1 (all_clauses x r.0)
-  defined_move x f (Formula-F.AnyOf fs) front s = let r = literals at fs s in ap (any_behind x) (literals_move fs front s) ∙ move_clauses front r.1 (any_clauses x r.0)
+  defined_move x f (Formula-F.Is item) front s = let r = literal at f s in ap (same_after x) ((shifts f).literal front s) ∙ move_clauses front r.1 (same_clauses x r.0)
+  defined_move x f (Formula-F.Neg g) front s = let r = literal at f s in ap (same_after x) ((shifts f).literal front s) ∙ move_clauses front r.1 (same_clauses x r.0)
+  defined_move x f (Formula-F.AllOf fs) front s = let r = literals at fs s in ap (all_after x) (literals_move fs front s) ∙ move_clauses front r.1 (all_clauses x r.0)
+  defined_move x f (Formula-F.AnyOf fs) front s = let r = literals at fs s in ap (any_after x) (literals_move fs front s) ∙ move_clauses front r.1 (any_clauses x r.0)
 
-  defines_move : (ds : List Definition) (front : List (List Lit)) (s : Form) → defined_each at ds (behind front s) ≡ behind front (defined_each at ds s)
+  defines_move : (ds : List Definition) (front : List (List Lit)) (s : Form) → defined_each at ds (after front s) ≡ after front (defined_each at ds s)
   defines_move [] front s = refl
   defines_move (d ∷ ds) front s = ap (λ (t : Form). defined_each at ds t) (defined_move (at d.item) d.formula (out-Formula d.formula) front s) ∙ defines_move ds front (defined at d s)
 
@@ -134,7 +134,7 @@ pub draft_settled : (s w v : Form) (cs ds : List (List Lit)) → IsDraft s w cs 
     → v ≡ record { vars = w.vars; clauses = [] } → IsDraft s v ds
 draft_settled s w v cs ds d h e = record {
   front = d.front ++ w.clauses;
-  is = d.is ∙ (ap (λ (ks : List (List Lit)). record { vars = w.vars; clauses = ks }) (sym (append-nil (d.front ++ w.clauses))) ∙ ap (λ (u : Form). behind (d.front ++ w.clauses) u) (sym e));
+  is = d.is ∙ (ap (λ (ks : List (List Lit)). record { vars = w.vars; clauses = ks }) (sym (append-nil (d.front ++ w.clauses))) ∙ ap (λ (u : Form). after (d.front ++ w.clauses) u) (sym e));
   tidy = h d.front d.tidy;
 }
 

@@ -95,20 +95,20 @@ module _ (c : List Lit) (apart : has_both_signs c ≡ false) where
 
   ordered_from : (zs : List Lit) → ((z : Lit) → has_lit zs z ≡ true → has_lit c z ≡ true) → IsStrictlySortedBy lit_cmp zs → IsOrdered zs
   ordered_from [] sub s = λ i j d p q. absurd (omega (arith, q))
-  ordered_from (z ∷ zs) sub s = by (ordered_from zs (λ y h. sub y (behind y h)) (sorted_tail lit_cmp z zs s))
+  ordered_from (z ∷ zs) sub s = by (ordered_from zs (λ y h. sub y (after y h)) (sorted_tail lit_cmp z zs s))
     where
       second : (a b : Bool) → b ≡ true → (a || b) ≡ true
       second true b h = refl
       second false b h = h
 
-      behind : (y : Lit) → has_lit zs y ≡ true → has_lit (z ∷ zs) y ≡ true
-      behind y h = second (is_lit y z) (has_lit zs y) h
+      after : (y : Lit) → has_lit zs y ≡ true → has_lit (z ∷ zs) y ≡ true
+      after y h = second (is_lit y z) (has_lit zs y) h
 
       later : (k : ℕ) (d : Lit) → k < length zs → z.var < (get_or zs k d).var
       later k d h = elim (less_cases z (get_or zs k d) (All-after_first lit_cmp z zs s k d h)) [
         | inl lt ↦ lt
         | inr e ↦ absurd (not_both z (sub z (ap (λ b. b || has_lit zs z) (lit_itself z)))
-            (subst (λ y. has_lit c y ≡ true) e (sub (get_or zs k d) (behind (get_or zs k d) (list_any_at (is_lit (get_or zs k d)) zs k d h (lit_itself (get_or zs k d)))))))
+            (subst (λ y. has_lit c y ≡ true) e (sub (get_or zs k d) (after (get_or zs k d) (list_any_at (is_lit (get_or zs k d)) zs k d h (lit_itself (get_or zs k d)))))))
       ]
 
       by : IsOrdered zs → IsOrdered (z ∷ zs)

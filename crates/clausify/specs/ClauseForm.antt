@@ -133,23 +133,23 @@ hold_each at fs = in_turn (map (λ m. m.held) (map (ways at) fs))
 -- ---- an item that a formula defines
 
 -- x is all, any, or the one of the literals that were made
-abbrev pub all_behind : ℕ → List Lit × Form → Form
-all_behind x r = with_clauses r.1 (all_clauses x r.0)
+abbrev pub all_after : ℕ → List Lit × Form → Form
+all_after x r = with_clauses r.1 (all_clauses x r.0)
 
-abbrev pub any_behind : ℕ → List Lit × Form → Form
-any_behind x r = with_clauses r.1 (any_clauses x r.0)
+abbrev pub any_after : ℕ → List Lit × Form → Form
+any_after x r = with_clauses r.1 (any_clauses x r.0)
 
-abbrev pub same_behind : ℕ → Lit × Form → Form
-same_behind x r = with_clauses r.1 (same_clauses x r.0)
+abbrev pub same_after : ℕ → Lit × Form → Form
+same_after x r = with_clauses r.1 (same_clauses x r.0)
 
 -- by the outermost layer of the formula
 abbrev pub defined_at : (Item → ℕ) → ℕ → Formula → Formula-F Formula → Form → Form
 defined_at at x f Formula-F.Yes s = with_clauses s ((pos x ∷ []) ∷ [])
 defined_at at x f Formula-F.No s = with_clauses s ((neg x ∷ []) ∷ [])
-defined_at at x f (Formula-F.Is item) s = same_behind x (literal at f s)
-defined_at at x f (Formula-F.Neg g) s = same_behind x (literal at f s)
-defined_at at x f (Formula-F.AllOf fs) s = all_behind x (literals at fs s)
-defined_at at x f (Formula-F.AnyOf fs) s = any_behind x (literals at fs s)
+defined_at at x f (Formula-F.Is item) s = same_after x (literal at f s)
+defined_at at x f (Formula-F.Neg g) s = same_after x (literal at f s)
+defined_at at x f (Formula-F.AllOf fs) s = all_after x (literals at fs s)
+defined_at at x f (Formula-F.AnyOf fs) s = any_after x (literals at fs s)
 
 -- the form with the clauses of a definition
 abbrev pub defined : (Item → ℕ) → Definition → Form → Form

@@ -7,13 +7,13 @@ use Rattle.clausify.specs.Form.{Form}
 use Rattle.clausify.specs.Tidy.{AreTidy}
 
 -- the form with these clauses in front of its own
-abbrev pub behind : List (List Lit) → Form → Form
-behind front s = record { vars = s.vars; clauses = front ++ s.clauses }
+abbrev pub after : List (List Lit) → Form → Form
+after front s = record { vars = s.vars; clauses = front ++ s.clauses }
 
--- of the form s some first clauses are put in order, as cs, and those behind them are as they were written
+-- of the form s some first clauses are put in order, as cs, and those after them are as they were written
 pub record IsDraft (s written : Form) (cs : List (List Lit)) : Type 0 where
   pub front : List (List Lit)
-  pub is : s ≡ behind front written
+  pub is : s ≡ after front written
   pub tidy : AreTidy front cs
 
 -- no clause has the variable 0

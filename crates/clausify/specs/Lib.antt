@@ -3,5 +3,7 @@ pub mod ClauseForm
 pub mod Order
 pub mod Tidy
 pub mod Draft
-pub mod Numbered
 pub mod Meaning
+pub mod Over
+pub mod Begun
+pub mod Renamed

@@ -1,5 +1,5 @@
--- The order of a clause form: symbols, choices, what the states of turn 0 hold, blocks, states, then the
--- wish. What a node's fact holds comes before what it defines. This project's rule.
+-- The order of a clause form: formulas that are held before all facts, symbols, choices, what the states of turn 0
+-- hold, blocks, states, then the wish. What a node's fact holds comes before what it defines. This project's rule.
 use Rattle.std.specs.Prelude.{◌≡◌, ℕ, Bool, true, false, not, ◌||◌, ◌==◌, length, List, [], ◌∷◌, ◌++◌, map, filter, if◌then◌else◌}
 use Rattle.ut_logic.specs.declared.item.Item.{Item}
 use Rattle.ut_logic.specs.declared.item.Item.TheVariants.{Outer}
@@ -56,6 +56,15 @@ form_of at facts wish s = hold_each at wish (staged at States facts (staged at B
 abbrev pub form_over : List Item → List Fact → List Formula → Form
 form_over items facts wish = form_of (var_of items) facts wish (record { vars = length items; clauses = [] })
 
+-- the form before the wish, where these formulas are held before the facts
+abbrev pub form_before : List Item → List Formula → List Fact → Form
+form_before items held facts = staged (var_of items) States facts (staged (var_of items) Blocks facts (staged (var_of items) Starts facts
+    (staged (var_of items) Symbols facts (hold_each (var_of items) held (record { vars = length items; clauses = [] })))))
+
+-- and with the wish: with nothing held before the facts it is the clause form over the items
+abbrev pub form_with : List Item → List Formula → List Fact → List Formula → Form
+form_with items held facts wish = hold_each (var_of items) wish (form_before items held facts)
+
 -- ---- facts and items of a slice
 
 -- the fact of a node: the first, if there are several
@@ -100,3 +109,7 @@ AreListed facts = (i : Item) → is_in (mentioned_in facts) i ≡ true → is_in
 -- each item that the wish mentions is listed in one of the facts, or an outer condition
 abbrev pub IsWishOver : List Fact → List Formula → Type 0
 IsWishOver facts wish = (i : Item) → is_in (together (map mentioned wish)) i ≡ true → (is_in (items_of facts) i || is_outer i) ≡ true
+
+-- each item that the formulas mention is one of these
+abbrev pub AreOver : List Item → List Formula → Type 0
+AreOver items fs = (i : Item) → is_in (together (map mentioned fs)) i ≡ true → is_in items i ≡ true

@@ -64,21 +64,21 @@ impl Builder {
 
     /// Adds what says that the variable is all of the literals.
     pub fn add_all(&mut self, alloc: Global, var: u64, lits: &[Lit]) -> Result<(), AllocError>
-        ensures { OnOk result (self.new ≡ spec.all_behind var (lits.now, self.old)) }
+        ensures { OnOk result (self.new ≡ spec.all_after var (lits.now, self.old)) }
     {
         push_all(alloc, &mut self.clauses, var, lits)
     }
 
     /// Adds what says that the variable is any of the literals.
     pub fn add_any(&mut self, alloc: Global, var: u64, lits: &[Lit]) -> Result<(), AllocError>
-        ensures { OnOk result (self.new ≡ spec.any_behind var (lits.now, self.old)) }
+        ensures { OnOk result (self.new ≡ spec.any_after var (lits.now, self.old)) }
     {
         push_any(alloc, &mut self.clauses, var, lits)
     }
 
     /// Adds what says that the variable is the literal.
     pub fn add_same(&mut self, alloc: Global, var: u64, lit: Lit) -> Result<(), AllocError>
-        ensures { OnOk result (self.new ≡ spec.same_behind var (lit, self.old)) }
+        ensures { OnOk result (self.new ≡ spec.same_after var (lit, self.old)) }
     {
         push_same(alloc, &mut self.clauses, var, lit)
     }
@@ -106,7 +106,7 @@ impl Builder {
     }
 }
 
-/// The variable behind these many. No memory holds the clauses of more than a `u64` counts.
+/// The variable after these many. No memory holds the clauses of more than a `u64` counts.
 fn next_variable(vars: u64) -> Result<u64, AllocError>
     ensures { IfOk result (λ var. var ≡ vars + 1) }
 {
@@ -125,7 +125,7 @@ fn push_all(
     for lit in lits {
         clauses.push(Lits::from_slice(alloc, &[negative(var), *lit])?)?;
     }
-    clauses.push(Lits::negated_behind(alloc, positive(var), lits)?)?;
+    clauses.push(Lits::negated_after(alloc, positive(var), lits)?)?;
     Ok(())
 }
 
@@ -141,7 +141,7 @@ fn push_any(
     for lit in lits {
         clauses.push(Lits::from_slice(alloc, &[positive(var), negated(*lit)])?)?;
     }
-    clauses.push(Lits::behind(alloc, negative(var), lits)?)?;
+    clauses.push(Lits::after(alloc, negative(var), lits)?)?;
     Ok(())
 }
 

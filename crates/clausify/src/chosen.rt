@@ -1,54 +1,40 @@
-ghost use Rattle.std.specs.Prelude.{◌≡◌, ◌<◌, ◌++◌, length, map, slice_index_or, IfOk, OnOk};
-ghost use Rattle.ut_logic.specs.declared.facts.Fact as declared;
-ghost use Rattle.model_slice.specs.Found.{Finds};
+ghost use Rattle.std.specs.Prelude.{◌≡◌, ◌++◌, map, IfOk, OnOk};
 ghost use Rattle.clausify.specs.Order.{fact_of, facts_of};
 
-use model_slice::Places;
+use model_slice::FindFact;
 use std::alloc::{AllocError, Global};
-use ut_logic::{Fact, Facts, Node};
+use ut_logic::{Fact, Node};
 
 /// The facts of the nodes, in their order; a node without a fact is passed over.
-pub fn chosen<'a>(
+pub fn chosen<'a, S: FindFact>(
     alloc: Global,
-    facts: &'a Facts,
-    places: &Places,
+    store: &'a S,
     nodes: &[Node],
 ) -> Result<Vec<&'a Fact>, AllocError>
-    requires { Finds facts.now.list places.now }
-    ensures { IfOk result (λ v. map (λ f. f.now) v.items ≡ facts_of facts.now.list nodes.now) }
+    ensures { IfOk result (λ v. map (λ f. f.now) v.items ≡ facts_of (S.facts store.now) nodes.now) }
 {
     let mut found = Vec::with_capacity(alloc, nodes.len())?;
     for node in nodes {
-        add_fact(&mut found, facts, places, *node)?;
+        add_fact(&mut found, store, *node)?;
     }
     Ok(found)
 }
 
 /// Adds the fact of the node, if it has one.
-fn add_fact<'a>(
+fn add_fact<'a, S: FindFact>(
     found: &mut Vec<&'a Fact>,
-    facts: &'a Facts,
-    places: &Places,
+    store: &'a S,
     node: Node,
 ) -> Result<(), AllocError>
-    requires { Finds facts.now.list places.now }
-    ensures { OnOk result (map (λ f. f.now) found.new.items ≡ map (λ f. f.now) found.old.items ++ fact_of facts.now.list node) }
+    ensures { OnOk result (map (λ f. f.now) found.new.items ≡ map (λ f. f.now) found.old.items ++ fact_of (S.facts store.now) node) }
 {
-    match places.place(facts, node) {
-        Some(place) => {
-            found.push(fact_at(facts.list.as_slice(), place))?;
+    match store.fact(node) {
+        Some(fact) => {
+            found.push(fact)?;
             Ok(())
         }
         None => Ok(()),
     }
-}
-
-/// The fact at the place.
-fn fact_at(facts: &[Fact], place: usize) -> &Fact
-    requires { place < length facts.now }
-    ensures { (d : declared.Fact) → slice_index_or facts.now place d ≡ result.now }
-{
-    &facts[place]
 }
 
 /// The nodes of the facts, in one list, so that the facts need not be read to look through them.

@@ -7,7 +7,10 @@ use crate::tidy::tidy_each;
 use std::alloc::{AllocError, Global};
 use ut_logic::{Clause, Lit};
 
-/// A clause form on its way: clauses that are put in order, and behind them those that are as they were
+/// For how many clauses of a wish there is room at first.
+const WISH_CLAUSES: usize = 16;
+
+/// A clause form on its way: clauses that are put in order, and after them those that are as they were
 /// written. So only a few stand as they were written at a time.
 #[derive(Drop)]
 pub struct Draft {
@@ -30,6 +33,18 @@ impl Draft {
         })
     }
 
+    /// These clauses over these variables, all in order, and room for some more.
+    pub fn again(alloc: Global, vars: u64, clauses: &[Clause]) -> Result<Draft, AllocError>
+        ensures written { IfOk result (λ d. d.written ≡ record { vars = vars; clauses = [] }) }
+        ensures clauses { IfOk result (λ d. d.clauses.items ≡ clauses.now) }
+    {
+        Ok(Draft {
+            written: Builder::new(alloc, vars),
+            clauses: copied(alloc, clauses)?,
+            sorted: Vec::new(alloc),
+        })
+    }
+
     /// Puts in order what is as it was written.
     pub fn settle(&mut self, alloc: Global) -> Result<(), AllocError>
         requires { AreCounted self.old.written.clauses }
@@ -45,4 +60,15 @@ impl Draft {
         self.written.clear();
         Ok(())
     }
+}
+
+/// The same clauses, and room for those of a wish.
+fn copied(alloc: Global, clauses: &[Clause]) -> Result<Vec<Clause>, AllocError>
+    ensures { IfOk result (λ copies. copies.items ≡ clauses.now) }
+{
+    let mut copies = Vec::with_capacity(alloc, clauses.len().saturating_add(WISH_CLAUSES))?;
+    for clause in clauses {
+        copies.push(clause.copy(alloc)?)?;
+    }
+    Ok(copies)
 }

@@ -11,7 +11,12 @@ use ut_logic::{Definition, Formula};
 /// Adds the clauses of a formula that holds: none for Yes, the empty clause for No, those of each member of
 /// an `AllOf`, one of the members' literals for an `AnyOf`, and else one of one literal.
 #[cycle(hold)]
-pub fn hold(alloc: Global, vars: &Variables, f: &Formula, b: &mut Builder) -> Result<(), AllocError>
+pub fn hold(
+    alloc: Global,
+    vars: &Variables<'_>,
+    f: &Formula,
+    b: &mut Builder,
+) -> Result<(), AllocError>
     ensures { OnOk result (b.new ≡ spec.hold (spec.var_of vars.now) f.now b.old) }
 {
     match f {
@@ -34,7 +39,7 @@ pub fn hold(alloc: Global, vars: &Variables, f: &Formula, b: &mut Builder) -> Re
 #[cycle(hold)]
 pub fn hold_each(
     alloc: Global,
-    vars: &Variables,
+    vars: &Variables<'_>,
     list: &[Formula],
     b: &mut Builder,
 ) -> Result<(), AllocError>
@@ -49,7 +54,7 @@ pub fn hold_each(
 /// Adds the clauses that give an item the truth of its formula.
 fn define(
     alloc: Global,
-    vars: &Variables,
+    vars: &Variables<'_>,
     definition: &Definition,
     b: &mut Builder,
 ) -> Result<(), AllocError>
@@ -82,7 +87,7 @@ fn define(
 /// Adds the clauses of definitions, one after another.
 pub fn define_each(
     alloc: Global,
-    vars: &Variables,
+    vars: &Variables<'_>,
     list: &[Definition],
     b: &mut Builder,
 ) -> Result<(), AllocError>

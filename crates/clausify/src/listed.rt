@@ -5,9 +5,9 @@ ghost use Rattle.ut_logic.specs.Truth.{mentioned, together};
 ghost use Rattle.clausify.specs.Order as order;
 
 use crate::chosen::chosen;
-use crate::variables::{collected, is_outer, listed};
+use crate::items::{collected, is_outer, listed};
 use indexmap::IndexSet;
-use model_slice::{Places, Slice};
+use model_slice::{FindFact, IndexedFacts, Slice};
 use std::alloc::{AllocError, Global};
 use ut_logic::{Definition, Fact, Facts, Formula, Item, mention, mention_each};
 
@@ -21,15 +21,40 @@ pub fn are_listed(
 ) -> Result<bool, AllocError>
     ensures { IfOk result (λ known. IsTrue known ↔ (order.AreListed (order.slice_facts facts.now slice.now) × order.IsWishOver (order.slice_facts facts.now slice.now) wish.now)) }
 {
-    let places = Places::of(alloc, facts)?;
-    let chosen = chosen(alloc, facts, &places, slice.nodes.as_slice())?;
+    let store = IndexedFacts::of(alloc, facts)?;
+    let known = are_listed_in(alloc, &store, &[], slice, wish)?;
+    Ok(known)
+}
+
+/// `are_listed` over facts wherever they are kept, and of formulas that are held before them, as `clauses_in`
+/// asks.
+pub fn are_listed_in<S: FindFact>(
+    alloc: Global,
+    store: &S,
+    held: &[Formula],
+    slice: &Slice,
+    wish: &[Formula],
+) -> Result<bool, AllocError>
+    ensures { IfOk result (λ known. IsTrue known ↔ (order.AreListed (order.facts_of (S.facts store.now) slice.now.nodes) × (order.AreOver (order.items_of (order.facts_of (S.facts store.now) slice.now.nodes)) held.now × order.IsWishOver (order.facts_of (S.facts store.now) slice.now.nodes) wish.now))) }
+{
+    let chosen = chosen(alloc, store, slice.nodes.as_slice())?;
     let items = listed(alloc, &chosen)?;
     let known = collected(alloc, &items)?;
     let mut mentioned = Vec::new(alloc);
     mention_facts(&chosen, &mut mentioned)?;
+    mention_each(held, &mut mentioned)?;
     let mut wished = Vec::new(alloc);
     mention_each(wish, &mut wished)?;
     Ok(all_known(&known, &mentioned, &wished))
+}
+
+/// Whether each item that the formulas mention is known. The only error is want of memory.
+pub fn all_among(alloc: Global, known: &IndexSet<Item>, fs: &[Formula]) -> Result<bool, AllocError>
+    ensures { IfOk result (λ all. IsTrue all ↔ order.AreOver known.now.keys fs.now) }
+{
+    let mut mentioned = Vec::new(alloc);
+    mention_each(fs, &mut mentioned)?;
+    Ok(each_known(known, &mentioned))
 }
 
 /// Whether all that is mentioned is known, and all that is wished is known or an outer condition.

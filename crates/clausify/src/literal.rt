@@ -11,7 +11,7 @@ use ut_logic::{Formula, Lit};
 #[cycle(literal)]
 pub fn literal(
     alloc: Global,
-    vars: &Variables,
+    vars: &Variables<'_>,
     f: &Formula,
     b: &mut Builder,
 ) -> Result<Lit, AllocError>
@@ -41,7 +41,7 @@ pub fn literal(
 #[cycle(literal)]
 pub fn literal_each(
     alloc: Global,
-    vars: &Variables,
+    vars: &Variables<'_>,
     list: &[Formula],
     b: &mut Builder,
 ) -> Result<Vec<Lit>, AllocError>

@@ -32,7 +32,7 @@ impl Lits {
     }
 
     /// A clause of a literal and the negations of others.
-    pub fn negated_behind(alloc: Global, first: Lit, lits: &[Lit]) -> Result<Lits, AllocError>
+    pub fn negated_after(alloc: Global, first: Lit, lits: &[Lit]) -> Result<Lits, AllocError>
         ensures { IfOk result (λ c. c ≡ first ∷ map words.negated lits.now) }
     {
         let mut clause = SmallVec::from_slice(alloc, &[first])?;
@@ -43,7 +43,7 @@ impl Lits {
     }
 
     /// A clause of a literal and others.
-    pub fn behind(alloc: Global, first: Lit, lits: &[Lit]) -> Result<Lits, AllocError>
+    pub fn after(alloc: Global, first: Lit, lits: &[Lit]) -> Result<Lits, AllocError>
         ensures { IfOk result (λ c. c ≡ first ∷ lits.now) }
     {
         let mut clause = SmallVec::from_slice(alloc, &[first])?;

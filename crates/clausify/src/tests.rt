@@ -1,5 +1,5 @@
-use crate::{are_listed, clauses};
-use model_slice::Slice;
+use crate::{are_listed, are_listed_in, clauses, clauses_in};
+use model_slice::{IndexedFacts, Slice, SymbolRoom};
 use sqlite_items::{Boxed, Items};
 use std::alloc::{AllocError, Global};
 use ut_logic::{Cnf, Definition, Fact, Facts, Formula, Item, Node, Sequence};
@@ -153,6 +153,42 @@ fn answer(
         return String::from_str(alloc, "an item is not listed");
     }
     let cnf = clauses(alloc, facts, slice, wish)?;
+    let whole = text(alloc, &cnf)?;
+    let other = with_room(alloc, facts, &[], slice, wish)?;
+    if other.as_str() != whole.as_str() {
+        return String::from_str(alloc, "another form with lent room");
+    }
+    Ok(whole)
+}
+
+// The form with lent room that ends before some symbols, where each item is listed.
+fn whole_form(
+    alloc: Global,
+    store: &IndexedFacts<'_>,
+    held: &[Formula],
+    slice: &Slice,
+    wish: &[Formula],
+) -> Result<Option<Cnf>, AllocError> {
+    let mut room = SymbolRoom::new(alloc, 1)?;
+    if !are_listed_in(alloc, store, held, slice, wish)? {
+        return Ok(None);
+    }
+    let cnf = clauses_in(alloc, store, &mut room, held, slice, wish)?;
+    Ok(Some(cnf))
+}
+
+// The text of the form with lent room.
+fn with_room(
+    alloc: Global,
+    facts: &Facts,
+    held: &[Formula],
+    slice: &Slice,
+    wish: &[Formula],
+) -> Result<String, AllocError> {
+    let store = IndexedFacts::of(alloc, facts)?;
+    let Some(cnf) = whole_form(alloc, &store, held, slice, wish)? else {
+        return String::from_str(alloc, "an item is not listed");
+    };
     text(alloc, &cnf)
 }
 
@@ -218,5 +254,21 @@ fn a_wish_has_the_clauses_of_its_form(rt: HostRuntime) -> Result<(), AllocError>
         let got = ask(rt.alloc(), &[Node::Sym(0)], wish(rt.alloc(), number)?)?;
         assert_eq!(rt; got.as_str(), want, "wish {number}");
     }
+    Ok(())
+}
+
+// A or B is held, B depends on A, and a wish comes last.
+#[test]
+fn held_formulas_come_first_and_each_wish_comes_last(rt: HostRuntime) -> Result<(), AllocError> {
+    let alloc = rt.alloc();
+    let facts = facts(alloc)?;
+    let slice = slice(alloc, &[Node::Sym(0), Node::Sym(1)])?;
+    let held = vec![in alloc; either(alloc, Formula::Is(B), Formula::Is(A))?]?;
+    let first = vec![in alloc; Formula::Is(B)]?;
+    let second = vec![in alloc; not(alloc, Formula::Is(B))?]?;
+    let got = with_room(alloc, &facts, &held, &slice, &first)?;
+    assert_eq!(rt; got.as_str(), " 1 2; 1 -2; 2;");
+    let got = with_room(alloc, &facts, &held, &slice, &second)?;
+    assert_eq!(rt; got.as_str(), " 1 2; 1 -2; -2;");
     Ok(())
 }

@@ -1,167 +1,133 @@
-ghost use Rattle.std.specs.Prelude.{◌≡◌, ◌++◌, ◌||◌, ◌≤◌, ◌<◌, ◌^◌, length, map, filter, IfOk, OnOk, IsSorted};
-ghost use Rattle.ut_logic.specs.Assign.{is_in};
-ghost use Rattle.ut_logic.specs.Item.{item_cmp, item_eq};
-ghost use Rattle.ut_logic.specs.Variables.{AreDistinct};
+ghost use Rattle.std.specs.Prelude.{◌≡◌, ◌<◌, length, slice_index_or, IfSome, IsTrue};
 ghost use Rattle.ut_logic.specs.declared.item.Item as declared;
+ghost use Rattle.ut_logic.specs.Variables.{AreDistinct};
 ghost use Rattle.clausify.specs.ClauseForm.{var_of};
-ghost use Rattle.clausify.specs.Numbered.{AreVariables};
-ghost use Rattle.clausify.specs.Order as order;
 
 use indexmap::IndexSet;
-use std::alloc::{AllocError, Global};
+use model_slice::SymbolRoom;
 use std::marker::Model;
-use ut_logic::{Fact, Formula, Item, mention_each};
+use ut_logic::Item;
 
-/// The items that variables stand for, in order: the variable of an item is its place from 1.
+/// The variables of items: that of an item is its place from 1. Symbols are found by what the room notes for
+/// them, and where that leads to no such item, by a search, as all other items.
 #[derive(Drop)]
-pub struct Variables {
-    set: IndexSet<Item>,
-    /// The variables of the symbols of the first numbers, without a search; 0 where there is none.
-    symbols: Vec<u64>,
+pub struct Variables<'a> {
+    items: &'a IndexSet<Item>,
+    room: &'a SymbolRoom,
 }
 
-impl Model for Variables {
+impl<'a> Model for Variables<'a> {
     ghost use Rattle.std.specs.Prelude.{List};
     ghost use Rattle.ut_logic.specs.declared.item.Item.{Item};
 
     ghost Value = { List Item };
 
-    ghost view = { λ v. v.set.keys };
-
-    ghost use Rattle.clausify.specs.Numbered.{AreVariables};
-
-    ghost invariant = { λ v. AreVariables v.set.keys v.symbols.items };
+    ghost view = { λ v. v.items.now.keys };
 }
 
-impl Variables {
-    /// The items that the facts list, and the outer conditions that the wish mentions.
-    pub fn of(alloc: Global, facts: &[&Fact], wish: &[Formula]) -> Result<Variables, AllocError>
-        ensures sorted { IfOk result (λ v. IsSorted item_cmp v) }
-        ensures members { IfOk result (λ v. (i : declared.Item) → is_in v i ≡ is_in (order.items_of (map (λ f. f.now) facts.now) ++ order.outers_of wish.now) i) }
+impl<'a> Variables<'a> {
+    /// The variables of these items.
+    pub fn new(items: &'a IndexSet<Item>, room: &'a SymbolRoom) -> Variables<'a>
+        ensures { result ≡ items.now.keys }
     {
-        let mut items = listed(alloc, facts)?;
-        let outers = outers(alloc, wish)?;
-        items.extend_from_slice(&outers)?;
-        let set = in_order(alloc, &items)?;
-        let symbols = symbols(alloc, set.as_slice(), facts.len())?;
-        Ok(Variables { set, symbols })
+        Variables { items, room }
+    }
+
+    /// How many items there are.
+    pub fn len(&self) -> usize
+        ensures { result ≡ length self.now }
+    {
+        self.items.len()
     }
 
     /// The variable of an item, or 0 where it has none.
     pub fn var(&self, item: Item) -> u64
         ensures { result ≡ var_of self.now item }
     {
-        match item {
-            Item::SymY(sym) => match self.symbols.get(sym as usize) {
-                Some(var) if *var != 0 => *var,
-                _ => searched(&self.set, item),
-            },
-            _ => searched(&self.set, item),
+        match at_place(self.items, noted(self.room, item), item) {
+            Some(var) => var,
+            None => searched(self.items, item),
         }
-    }
-
-    /// The items in order.
-    pub fn items(&self) -> &[Item]
-        ensures value { result.now ≡ self.now }
-        ensures distinct { AreDistinct self.now }
-    {
-        self.set.as_slice()
     }
 }
 
-/// The variable of an item, by a search.
-fn searched(set: &IndexSet<Item>, item: Item) -> u64
-    ensures { result ≡ var_of set.now.keys item }
+/// Notes the places of symbols among the items, where there is room for them.
+pub fn note_symbols(items: &[Item], room: &mut SymbolRoom) {
+    for place in 0..items.len() {
+        if let Item::SymY(sym) = items[place] {
+            if (sym as usize) < room.len() {
+                room.note(sym, place);
+            }
+        }
+    }
+}
+
+/// Where the item may stand, by what the room notes: what says that a symbol is m comes right after what says
+/// that it is y.
+fn noted(room: &SymbolRoom, item: Item) -> Option<usize> {
+    match item {
+        Item::SymY(sym) => noted_symbol(room, sym),
+        Item::SymM(sym) => noted_symbol(room, sym)?.checked_add(1),
+        _ => None,
+    }
+}
+
+/// What the room notes for the symbol, if it has a place for it.
+fn noted_symbol(room: &SymbolRoom, sym: u32) -> Option<usize> {
+    if (sym as usize) < room.len() {
+        Some(room.place(sym))
+    } else {
+        None
+    }
+}
+
+/// The variable of the item, if it stands at the place.
+fn at_place(items: &IndexSet<Item>, place: Option<usize>, item: Item) -> Option<u64>
+    ensures { IfSome result (λ var. var ≡ var_of items.now.keys item) }
 {
-    let count = set.len();
-    match set.get_index_of(&item) {
+    at(items.as_slice(), place?, item)
+}
+
+/// The variable of the item, if it stands at the place.
+fn at(items: &[Item], place: usize, item: Item) -> Option<u64>
+    requires { AreDistinct items.now }
+    ensures { IfSome result (λ var. var ≡ var_of items.now item) }
+{
+    let count = items.len();
+    if stands_at(items, place, item) {
+        prove!(place < count);
+        Some(place as u64 + 1)
+    } else {
+        None
+    }
+}
+
+/// Whether the item stands at the place.
+fn stands_at(items: &[Item], place: usize, item: Item) -> bool
+    ensures within { IsTrue result → place < length items.now }
+    ensures is { IsTrue result → (d : declared.Item) → slice_index_or items.now place d ≡ item }
+{
+    place < items.len() && item_at(items, place) == item
+}
+
+/// The item at the place.
+fn item_at(items: &[Item], place: usize) -> Item
+    requires { place < length items.now }
+    ensures { (d : declared.Item) → slice_index_or items.now place d ≡ result }
+{
+    items[place]
+}
+
+/// The variable of an item, by a search.
+fn searched(items: &IndexSet<Item>, item: Item) -> u64
+    ensures { result ≡ var_of items.now.keys item }
+{
+    let count = items.len();
+    match items.get_index_of(&item) {
         Some(place) => {
             prove!(place < count);
             place as u64 + 1
         }
         None => 0,
     }
-}
-
-/// The variables of the symbols of these items whose numbers are below a bound.
-fn symbols(alloc: Global, items: &[Item], below: usize) -> Result<Vec<u64>, AllocError>
-    requires { AreDistinct items.now }
-    ensures { IfOk result (λ vars. AreVariables items.now vars.items) }
-{
-    let mut vars = Vec::new(alloc);
-    vars.resize(below, 0)?;
-    for place in 0..items.len() {
-        number(&mut vars, items, place);
-    }
-    Ok(vars)
-}
-
-/// Notes the variable of the item at the place, if it is a symbol with a number below the bound.
-fn number(vars: &mut Vec<u64>, items: &[Item], place: usize)
-    requires distinct { AreDistinct items.now }
-    requires place { place < length items.now }
-    requires vars { AreVariables items.now vars.old.items }
-    ensures { AreVariables items.now vars.new.items }
-{
-    if let Item::SymY(sym) = items[place] {
-        if (sym as usize) < vars.len() {
-            vars[sym as usize] = place as u64 + 1;
-        }
-    }
-}
-
-/// Whether the item is an outer condition.
-pub fn is_outer(item: Item) -> bool
-    ensures { result ≡ order.is_outer item }
-{
-    matches!(item, Item::Outer(_))
-}
-
-/// The outer conditions that the formulas mention.
-fn outers(alloc: Global, wish: &[Formula]) -> Result<Vec<Item>, AllocError>
-    ensures { IfOk result (λ v. v.items ≡ order.outers_of wish.now) }
-{
-    let mut items = Vec::new(alloc);
-    mention_each(wish, &mut items)?;
-    keep_outers(&mut items);
-    Ok(items)
-}
-
-/// Keeps the outer conditions alone.
-fn keep_outers(items: &mut Vec<Item>)
-    ensures { items.new.items ≡ filter order.is_outer items.old.items }
-{
-    items.retain(|item| is_outer(*item));
-}
-
-/// The items that the facts list.
-pub fn listed(alloc: Global, facts: &[&Fact]) -> Result<Vec<Item>, AllocError>
-    ensures { IfOk result (λ v. v.items ≡ order.items_of (map (λ f. f.now) facts.now)) }
-{
-    let mut items = Vec::new(alloc);
-    for fact in facts {
-        items.extend_from_slice(fact.items.as_slice())?;
-    }
-    Ok(items)
-}
-
-/// The items in order, each once.
-fn in_order(alloc: Global, items: &[Item]) -> Result<IndexSet<Item>, AllocError>
-    ensures sorted { IfOk result (λ s. IsSorted item_cmp s.keys) }
-    ensures members { IfOk result (λ s. (i : declared.Item) → is_in s.keys i ≡ is_in items.now i) }
-{
-    let mut set = collected(alloc, items)?;
-    set.sort_unstable()?;
-    Ok(set)
-}
-
-/// The items, each once. The only error is want of memory.
-pub fn collected(alloc: Global, items: &[Item]) -> Result<IndexSet<Item>, AllocError>
-    ensures members { IfOk result (λ s. (i : declared.Item) → is_in s.keys i ≡ is_in items.now i) }
-{
-    let mut set = IndexSet::with_capacity(alloc, items.len())?;
-    for item in items {
-        set.insert(*item)?;
-    }
-    Ok(set)
 }

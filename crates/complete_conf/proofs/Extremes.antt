@@ -4,12 +4,18 @@ use Rattle.std.proofs.lemmas.List.{map_more}
 use Rattle.ut_logic.specs.declared.trit.Trit.{Trit}
 use Rattle.ut_logic.specs.declared.trit.Trit.TheVariants.{N, M, Y}
 use Rattle.ut_logic.specs.Trit.{rank}
-use Rattle.kconf_tree.specs.Value.{least, greatest}
+use Rattle.kconf_tree.specs.Value.{HasValues, least, greatest}
+use Rattle.complete_conf.specs.declared.config.Config.{Config}
+use Rattle.complete_conf.specs.Config.{by_lists}
 
 pub rank_small : (x : Trit) → rank x ≤ 2
 rank_small N = omega arith
 rank_small M = omega arith
 rank_small Y = omega arith
+
+-- a `Config` has values of its type alone
+pub values_small : (c : Config) → HasValues (by_lists c)
+values_small c k = rank_small (get_or c.values k N)
 
 least_push : (xs : List ℕ) (y : ℕ) → y ≤ 2 → least (xs ++ y ∷ []) ≡ min (least xs) y
 least_push [] y h = omega arith

@@ -1,6 +1,5 @@
-mod PropertiesSame
 mod PickLaws
-mod ChoiceLaws
+mod FreeSame
 mod NodeLaws
 mod PartLaws
 mod Rules
@@ -9,3 +8,4 @@ mod Finding
 mod Picked
 mod ValidLaws
 mod Lines
+mod AllN

@@ -1,33 +1,40 @@
--- Completion along the order of a tree keeps the rules.
-use Rattle.std.proofs.Common.{◌≡◌, ℕ, zero, suc, ◌+◌, ◌<◌, ◌==◌, Bool, true, false, ◌||◌, cond, List, [], ◌∷◌, map, length, get_or, refl, ap, sym, ◌∙◌, subst, arith, Option, None, Some, ◌⊎◌, inl, inr}
-use Rattle.std.proofs.lemmas.Bool.{false≢true, cases_lt}
+-- Completing along the order of a tree leaves all that isn't known as it is without a user's setting, and so keeps the rules.
+use Rattle.std.proofs.Common.{◌≡◌, ℕ, zero, suc, ◌+◌, ◌<◌, ◌==◌, ◌≤◌, Bool, true, false, not, ◌&&◌, ◌||◌, cond, List, [], ◌∷◌, map, length, get_or, refl, ap, sym, ◌∙◌, subst, arith, Option, None, Some, ◌⊎◌, inl, inr}
+use Rattle.std.proofs.lemmas.Bool.{false≢true}
 use Rattle.std.proofs.lemmas.Bool.Decides.{nat_tests}
 use Rattle.std.specs.Prelude.{is_some}
 use Rattle.std.specs.List.{list_any, flat_map, range_with_len, Contains}
 use Rattle.std.proofs.lemmas.Cmp.{eq_by_cmp_equiv}
+use Rattle.std.proofs.lemmas.List.Elements.{All-head, All-tail}
 use Rattle.ut_logic.specs.declared.node.Node.{Node}
-use Rattle.ut_logic.specs.declared.node.Node.TheVariants.{Sym, Choice}
+use Rattle.ut_logic.specs.declared.node.Node.TheVariants.{Sym, Choice, Block, State}
 use Rattle.ut_logic.specs.Node.{node_eq, node_total}
 use Rattle.ut_logic.specs.NodeIdentity.{node_eq-Decides}
 use Rattle.kconf_tree.specs.declared.shape.Choice.{Choice as OneChoice}
-use Rattle.kconf_tree.specs.declared.shape.Symbol.{Symbol}
-use Rattle.kconf_tree.specs.Shape.{Shape, symbol_at, choice_at, is_member, no_choice}
-use Rattle.kconf_tree.specs.Value.{Configuration}
-use Rattle.kconf_tree.specs.Valid.{is_right_choice, KeepsRules}
-use Rattle.kconf_tree.specs.References.{node_by, node_of, references_of}
+use Rattle.kconf_tree.specs.Shape.{Shape, symbol_at, choice_at, is_member, is_the, no_choice}
+use Rattle.kconf_tree.specs.Value.{Configuration, HasValues}
+use Rattle.kconf_tree.specs.Valid.{calculated_of, IsRightChoice, KeepsRules}
+use Rattle.kconf_tree.specs.References.{symbol_references, choice_references, node_by, node_of, references_of}
 use Rattle.kconf_tree.specs.Orders.{nodes_of, node_at, with_members, empty_choices, IsOrder}
 use Rattle.kconf_tree.proofs.Places.{distinct_apart, distinct_has}
 use Rattle.kconf_tree.specs.Right.{IsRight}
-use Rattle.complete_conf.specs.Parts.{Part, IsClosedPart, IsRightPart}
-use Rattle.complete_conf.specs.Completion.{completed}
+use Rattle.complete_conf.specs.Free.{free_value, free_by, free_mode, picked_of, picked_value}
+use Rattle.complete_conf.specs.Parts.{Part, Holds, AgreeOn, IsClosedPart, IsRest, IsRightPart}
+use Rattle.complete_conf.specs.Completion.{with_value, with_node, completed}
+use Rattle.kconf_tree.proofs.SmallLaws.{calculated_small}
 use Rattle.kconf_tree.specs.WellMade.{is_among, IsWellMade}
-use Rattle.kconf_tree.proofs.MadeLaws.{symbol_past}
+use Rattle.kconf_tree.proofs.MadeLaws.{member_within}
+use Rattle.kconf_tree.proofs.ReferenceLaws.{choice_within}
+use Rattle.kconf_tree.proofs.RightChoices.{choice_by_test, test_by_choice}
+use Rattle.kconf_tree.proofs.ValueLaws.{Agree, Alike}
+use Rattle.kconf_tree.proofs.LookLaws.{alike_in, right_stays, choice_stays}
 use Rattle.kconf_tree.proofs.Small.{or_left, or_right, or_cases, number_self}
 use Rattle.kconf_tree.proofs.RightLaws.{setting_from_right}
 use Rattle.node_order.proofs.SettleLaws.{among, settle_all, completed_right}
-use Rattle.complete_conf.proofs.NodeLaws.{settle_node, Keeps, Right, nodes_settle}
+use Rattle.complete_conf.proofs.NodeLaws.{Keeps, IsFree, nodes_settle}
+use Rattle.complete_conf.proofs.PickLaws.{free_is_right}
 use Rattle.kconf_tree.proofs.GraphOrders.{ordered_nodes, node_in_order, any_contains}
-use Rattle.complete_conf.proofs.PartLaws.{completed_append, without_members, knows, all_steps, closed_nodes, right_nodes, NoNode, empties_right}
+use Rattle.complete_conf.proofs.PartLaws.{completed_append, without_members, all_steps, NoNode, empties_free}
 
 -- ---- the nodes of a tree
 
@@ -91,7 +98,7 @@ empties_have n (c ∷ cs) (suc j) l h = by (length c.members == 0) (empties_have
 
 -- ---- the law
 
-module _ (t : Shape) (order : List Node) (p : Part) (c : Configuration) (made : IsWellMade t) (ordered : IsOrder t order) (closed : IsClosedPart t p) (right : IsRightPart t c p) where
+module _ (t : Shape) (order : List Node) (p : Part) (c : Configuration) (made : IsWellMade t) (ordered : IsOrder t order) where
   abbrev listed : List Node
   listed = map (node_at t) ordered.numbers
 
@@ -99,19 +106,20 @@ module _ (t : Shape) (order : List Node) (p : Part) (c : Configuration) (made : 
   empties = empty_choices 0 t.choices
 
   abbrev first : Configuration
-  first = settle_all (settle_node t) (knows t p made) c listed
+  first = settle_all (with_node t p) (λ n. false) c listed
 
   abbrev all : Configuration
-  all = settle_all (settle_node t) (knows t p made) first empties
+  all = settle_all (with_node t p) (λ n. false) first empties
 
   same : completed t p c order ≡ all
   same = ap (completed t p c) ordered.listed
       ∙ (completed_append t p c (flat_map (λ k. with_members t (node_at t k)) ordered.numbers) empties
-      ∙ (ap (λ (x : Configuration). completed t p x empties) (without_members t p made ordered.numbers c ∙ all_steps t p made closed listed c)
-      ∙ all_steps t p made closed empties first))
+      ∙ (ap (λ (x : Configuration). completed t p x empties) (without_members t p made ordered.numbers c ∙ all_steps t p made listed c)
+      ∙ all_steps t p made empties first))
 
-  first_right : (n : Node) → (knows t p made n || among node_eq listed n) ≡ true → Right t made first n
-  first_right = completed_right node_eq (references_of t) (Right t made) (Keeps t made) (settle_node t) (nodes_settle t made) (knows t p made) listed c (ordered_nodes t (distinct_apart node_eq (map (node_of t) (range_with_len 0 (length t.symbols)))) ordered.numbers ordered.orders) (right_nodes t p made closed c right) (closed_nodes t p made closed)
+  first_free : (n : Node) → among node_eq listed n ≡ true → IsFree t p made first n
+  first_free n h = completed_right node_eq (references_of t) (IsFree t p made) (Keeps t p made) (with_node t p) (nodes_settle t p made) (λ m. false) listed c
+      (ordered_nodes t (distinct_apart node_eq (map (node_of t) (range_with_len 0 (length t.symbols)))) ordered.numbers ordered.orders) (λ m k. absurd (false≢true k)) (λ m j k g. absurd (false≢true k)) n h
 
   -- no symbol's node is a choice without members
   lone : (e : Node) → among node_eq empties e ≡ true → NoNode t p made e
@@ -128,30 +136,95 @@ module _ (t : Shape) (order : List Node) (p : Part) (c : Configuration) (made : 
       by None f j x l = absurd (cc)
       by (Some i) f j x l = let e : i ≡ j = cc in none (choice_at t j).members (made.listed j k (f ∙ ap Some e)) l
 
-  all_right : (n : Node) → (Right t made first n ⊎ (among node_eq empties n ≡ true)) → Right t made all n
-  all_right n h = empties_right t p made (knows t p made) empties lone first (λ m g. first_right m (or_left (knows t p made m) (among node_eq listed m) g)) n h
+  all_free : (n : Node) → (IsFree t p made first n ⊎ (among node_eq empties n ≡ true)) → IsFree t p made all n
+  all_free n h = empties_free t p made empties lone first n h
 
-  node_right : (n : Node) → Contains (nodes_of t) n → Right t made all n
-  node_right n h = all_right n (inl (first_right n (or_right (knows t p made n) (among node_eq listed n) (node_in_order t (distinct_apart node_eq (map (node_of t) (range_with_len 0 (length t.symbols)))) ordered.numbers ordered.orders n h))))
+  node_free : (n : Node) → Contains (nodes_of t) n → IsFree t p made all n
+  node_free n h = all_free n (inl (first_free n (node_in_order t (distinct_apart node_eq (map (node_of t) (range_with_len 0 (length t.symbols)))) ordered.numbers ordered.orders n h)))
 
-  symbol_right : (k : ℕ) → k < length t.symbols → is_member t k ≡ false → IsRight t all k
-  symbol_right k l own = node_right (Sym k) (subst (λ (n : Node). Contains (nodes_of t) n) (ap (node_by k) (is_none (symbol_at t k).member_of own)) (node_listed t k l)) own
+  -- each choice has what it has without a user's setting
+  choice_free : (i : ℕ) → i < length t.choices → IsFree t p made all (Choice i)
+  choice_free i l = by (choice_at t i).members refl
     where
-      is_none : (o : Option ℕ) → is_some o ≡ false → o ≡ None
-      is_none None h = refl
-      is_none (Some i) h = absurd (cc)
-
-  choice_right : (i : ℕ) → i < length t.choices → is_right_choice t all i ≡ true
-  choice_right i l = by (choice_at t i).members refl
-    where
-      by : (ms : List ℕ) → (choice_at t i).members ≡ ms → is_right_choice t all i ≡ true
-      by [] e = all_right (Choice i) (inr (let plain : 0 + i ≡ i = omega arith in subst (λ (x : ℕ). among node_eq empties (Choice x) ≡ true) plain (empties_have 0 t.choices i l (ap length e))))
+      by : (ms : List ℕ) → (choice_at t i).members ≡ ms → IsFree t p made all (Choice i)
+      by [] e = all_free (Choice i) (inr (let plain : 0 + i ≡ i = omega arith in subst (λ (x : ℕ). among node_eq empties (Choice x) ≡ true) plain (empties_have 0 t.choices i l (ap length e))))
       by (j ∷ js) e = let there : (symbol_at t j).member_of ≡ Some i = made.of_choice i j (ap (λ (xs : List ℕ). is_among xs j) e ∙ or_left (j == j) (is_among js j) (number_self j)) in
-          elim (cases_lt j (length t.symbols)) [
-            | inl lt ↦ node_right (Choice i) (subst (λ (n : Node). Contains (nodes_of t) n) (ap (node_by j) there) (node_listed t j lt))
-            | inr ge ↦ absurd (let none : None ≡ Some i = sym (ap (λ (s : Symbol). s.member_of) (symbol_past t.symbols j ge)) ∙ there in cc)
-          ]
+          node_free (Choice i) (subst (λ (n : Node). Contains (nodes_of t) n) (ap (node_by j) there) (node_listed t j (member_within t made i j (made.listed i j there))))
 
-  -- the completed configuration keeps the rules
-  pub keeps_rules : KeepsRules t (completed t p c order)
-  keeps_rules = subst (λ (d : Configuration). KeepsRules t d) (sym same) (let setting = setting_from_right t all symbol_right in record { setting = setting.0; calculated = setting.1; choices = choice_right })
+  -- and so has each symbol
+  value_free : (k : ℕ) → k < length t.symbols → p.symbol k ≡ false → all.value k ≡ free_value t all k
+  value_free k l out = by (symbol_at t k).member_of refl
+    where
+      by : (o : Option ℕ) → (symbol_at t k).member_of ≡ o → all.value k ≡ free_by t all k o
+      by None e = (node_free (Sym k) (subst (λ (n : Node). Contains (nodes_of t) n) (ap (node_by k) e) (node_listed t k l))).value (ap is_some e) out
+      by (Some i) e = (choice_free i (choice_within t made i k e)).members k (made.listed i k e) out
+
+  -- the rest of the completed configuration is free
+  pub rest : IsRest t p (completed t p c order)
+  rest = subst (λ (d : Configuration). IsRest t p d) (sym same) (record { values = value_free; modes = λ i l out. (choice_free i l).mode out })
+
+-- ---- values stay n, m or y
+
+values_one : (t : Shape) (p : Part) (c : Configuration) → HasValues c → (n : Node) → HasValues (with_node t p c n)
+values_one t p c small (Sym k) j = by (is_member t k) (p.symbol k)
+  where
+    one : (b : Bool) → cond b (calculated_of t c None k) (c.value j) ≤ 2
+    one true = calculated_small t c small k
+    one false = small j
+
+    by : (m s : Bool) → (cond m c (cond s c (with_value c k (calculated_of t c None k)))).value j ≤ 2
+    by true s = small j
+    by false true = small j
+    by false false = one (k == j)
+values_one t p c small (Choice i) j = by (is_among (choice_at t i).members j && not (p.symbol j)) (is_the (picked_of t c i) j)
+  where
+    by : (b q : Bool) → cond b (cond q 2 0) (c.value j) ≤ 2
+    by true true = omega arith
+    by true false = omega arith
+    by false q = small j
+values_one t p c small (Block f b) j = small j
+values_one t p c small (State f n u) j = small j
+
+pub values_kept : (t : Shape) (p : Part) (c : Configuration) → HasValues c → (ns : List Node) → HasValues (completed t p c ns)
+values_kept t p c small [] = small
+values_kept t p c small (n ∷ ns) = values_kept t p (with_node t p c n) (values_one t p c small n) ns
+
+-- ---- validity
+
+-- values that agree on what is known, with the rest free, keep the rules where the known part is closed and right
+pub valid_by : (t : Shape) (p : Part) (c d : Configuration) → HasValues d → IsWellMade t → IsClosedPart t p → IsRightPart t c p → AgreeOn p c d → IsRest t p d → KeepsRules t d
+valid_by t p c d small made closed right kept rest = let setting = setting_from_right t d symbol_right in record { values = λ k l. small k; setting = setting.0; calculated = setting.1; choices = choice_right }
+  where
+    alike : Alike c d
+    alike = record { outer = kept.outers; undeclared = kept.undeclared }
+
+    agree : (ks : List ℕ) → Holds p ks → Agree c d ks
+    agree [] h = tt
+    agree (k ∷ ks) h = (kept.values k (All-head (λ j. p.symbol j ≡ true) k ks h), agree ks (All-tail (λ j. p.symbol j ≡ true) k ks h))
+
+    free_symbol : (k : ℕ) → is_member t k ≡ false → d.value k ≡ free_value t d k → d.value k ≡ calculated_of t d None k
+    free_symbol k own e = by (symbol_at t k).member_of own e
+      where
+        by : (o : Option ℕ) → is_some o ≡ false → d.value k ≡ free_by t d k o → d.value k ≡ calculated_of t d None k
+        by None m f = f
+        by (Some i) m f = absurd (false≢true (sym m))
+
+    symbol_right : (k : ℕ) → k < length t.symbols → is_member t k ≡ false → IsRight t d k
+    symbol_right k l own = by (p.symbol k) refl
+      where
+        by : (b : Bool) → p.symbol k ≡ b → IsRight t d k
+        by true e = right_stays t c d (alike_in t c d alike) k (agree (symbol_references t k) (closed.symbols k own e)) (kept.values k e) (right.symbols k own e)
+        by false e = (None, (tt, sym (free_symbol k own (rest.values k l e))))
+
+    choice_right : (i : ℕ) → i < length t.choices → IsRightChoice t d i
+    choice_right i l = by (p.choice i) refl
+      where
+        known_members : p.choice i ≡ true → (j : ℕ) → is_among (choice_at t i).members j ≡ true → c.value j ≡ d.value j
+        known_members e j h = kept.values j (closed.together i j (made.of_choice i j h) ∙ e)
+
+        free_member : p.choice i ≡ false → (j : ℕ) → is_among (choice_at t i).members j ≡ true → d.value j ≡ picked_value (picked_of t d i) j
+        free_member e j h = rest.values j (member_within t made i j h) (closed.together i j (made.of_choice i j h) ∙ e) ∙ ap (free_by t d j) (made.of_choice i j h)
+
+        by : (b : Bool) → p.choice i ≡ b → IsRightChoice t d i
+        by true e = choice_by_test t d i (choice_stays t c d (alike_in t c d alike) i (kept.modes i e) (known_members e) (agree (choice_references t i) (closed.choices i e)) (test_by_choice t c i (right.choices i e)))
+        by false e = free_is_right t made d i (rest.modes i l e) (free_member e)

@@ -1,39 +1,17 @@
--- Parts of a tree: which are closed under references, under which configurations they are right, and
--- which configurations keep them.
+-- What is known, as a part of a tree, and configurations that have all else without a user's setting.
 -- This project's rule.
-use Rattle.std.specs.Prelude.{◌≡◌, ℕ, Bool, true, false, List, Some, All, slice_index_or}
-use Rattle.kconf_tree.specs.Shape.{Shape, symbol_at, is_member}
+use Rattle.std.specs.Prelude.{◌≡◌, ℕ, ◌<◌, false, length, slice_index_or}
+use Rattle.kconf_tree.specs.Shape.{Shape}
 use Rattle.kconf_tree.specs.Value.{Configuration}
-use Rattle.kconf_tree.specs.Valid.{is_right_choice}
-use Rattle.kconf_tree.specs.References.{symbol_references, choice_references}
+pub use Rattle.kconf_tree.specs.Parts.{Part, Holds, IsClosedPart, IsRightPart, AgreeOn}
 use Rattle.complete_conf.specs.declared.config.Known.{Known}
-use Rattle.kconf_tree.specs.Right.{IsRight}
-
--- which symbols and choices belong to it
-pub record Part : Type 0 where
-  pub symbol : ℕ → Bool
-  pub choice : ℕ → Bool
+use Rattle.complete_conf.specs.Free.{free_value, free_mode}
 
 -- what is known
 abbrev pub part_of : Known → Part
 part_of known = record { symbol = λ k. slice_index_or known.syms k false; choice = λ i. slice_index_or known.choices i false }
 
--- all symbols of the list belong to it
-abbrev pub Holds : Part → List ℕ → Type 0
-Holds p = All (λ k. p.symbol k ≡ true)
-
--- all that it refers to belongs to it, and a choice belongs to it exactly where its members do
-pub record IsClosedPart (t : Shape) (p : Part) : Type 0 where
-  pub symbols : (k : ℕ) → is_member t k ≡ false → p.symbol k ≡ true → Holds p (symbol_references t k)
-  pub choices : (i : ℕ) → p.choice i ≡ true → Holds p (choice_references t i)
-  pub together : (i j : ℕ) → (symbol_at t j).member_of ≡ Some i → p.symbol j ≡ p.choice i
-
--- each symbol of it that is no member is right, and each choice keeps its rules
-pub record IsRightPart (t : Shape) (c : Configuration) (p : Part) : Type 0 where
-  pub symbols : (k : ℕ) → is_member t k ≡ false → p.symbol k ≡ true → IsRight t c k
-  pub choices : (i : ℕ) → p.choice i ≡ true → is_right_choice t c i ≡ true
-
--- the second configuration has the values and modes that the first has there
-pub record IsKeptBy (p : Part) (c d : Configuration) : Type 0 where
-  pub values : (k : ℕ) → p.symbol k ≡ true → d.value k ≡ c.value k
-  pub modes : (i : ℕ) → p.choice i ≡ true → d.mode i ≡ c.mode i
+-- each symbol and choice outside has what it has without a user's setting under this very configuration
+pub record IsRest (t : Shape) (p : Part) (c : Configuration) : Type 0 where
+  pub values : (k : ℕ) → k < length t.symbols → p.symbol k ≡ false → c.value k ≡ free_value t c k
+  pub modes : (i : ℕ) → i < length t.choices → p.choice i ≡ false → c.mode i ≡ free_mode t c i

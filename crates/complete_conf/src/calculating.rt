@@ -1,7 +1,7 @@
 ghost use Rattle.std.specs.Prelude.{◌≡◌, ◌<◌, ◌↔◌, IsTrue, None, Some, length};
 ghost use Rattle.ut_logic.specs.Trit.{rank};
 ghost use Rattle.kconf_tree.specs.Valid as spec;
-ghost use Rattle.complete_conf.specs.Config.{configuration_of};
+ghost use Rattle.complete_conf.specs.Config.{by_lists};
 ghost use Rattle.kconf_tree.specs.Right.{is_settled, IsRight};
 
 use crate::config::Config;
@@ -31,7 +31,7 @@ fn promoted(counts: Counts, on: bool, value: Trit) -> Trit
 /// The value that a symbol gets without a user's setting.
 pub fn calculated(tree: &Tree, config: &Config, sym: u32) -> Trit
     requires { sym < length tree.now.shape.symbols }
-    ensures { rank result ≡ spec.calculated_of tree.now.shape (configuration_of config.now) None sym }
+    ensures { rank result ≡ spec.calculated_of tree.now.shape (by_lists config.now) None sym }
 {
     let raised = trit_or(default_value(tree, config, sym), reverse(tree, config, sym));
     promoted(tree.counts_as(sym), has_modules(tree, config), raised)
@@ -80,7 +80,7 @@ fn settles(inputs: Inputs, value: Trit) -> bool
 /// Whether some user's setting, or none, gives a symbol its own value.
 pub fn is_right(tree: &Tree, config: &Config, sym: u32) -> bool
     requires { sym < length tree.now.shape.symbols }
-    ensures { IsTrue result ↔ IsRight tree.now.shape (configuration_of config.now) sym }
+    ensures { IsTrue result ↔ IsRight tree.now.shape (by_lists config.now) sym }
 {
     let inputs = Inputs {
         counts: tree.counts_as(sym),

@@ -2,10 +2,10 @@ ghost use Rattle.std.specs.Prelude.{◌≡◌, ◌<◌, ◌∷◌, [], length, A
 ghost use Rattle.ut_logic.specs.Trit.{rank};
 ghost use Rattle.kconf_tree.specs.Valid.{IsValid};
 ghost use Rattle.complete_conf.specs.Completion.{completed, with_choice, with_node, with_symbol};
-ghost use Rattle.complete_conf.specs.Config.{configuration_of, FitsTree};
-ghost use Rattle.complete_conf.specs.Inner.{HaveValues, KeepsLengths, with_free_mode, with_picked};
+ghost use Rattle.complete_conf.specs.Config.{by_lists, configuration_of, FitsTree, KeepsLengths};
+ghost use Rattle.complete_conf.specs.Inner.{HaveValues, with_free_mode, with_picked};
 ghost use Rattle.kconf_tree.specs.WellMade.{IsNodeOf, IsWellMade};
-ghost use Rattle.complete_conf.specs.Parts.{part_of, IsClosedPart, IsKeptBy, IsRightPart};
+ghost use Rattle.complete_conf.specs.Parts.{part_of, AgreeOn, IsClosedPart, IsRest, IsRightPart};
 
 use crate::calculating::calculated;
 use crate::choosing::{free_mode, member_value, picked_in};
@@ -15,7 +15,7 @@ use ut_logic::{Node, Trit};
 
 /// Sets the value of a member, unless it is known.
 fn complete_member(config: &mut Config, known: &Known, picked: Option<u32>, member: u32)
-    ensures value { HaveValues config.old (member ∷ []) → configuration_of config.new ≡ with_picked (part_of known.now) (configuration_of config.old) picked (member ∷ []) }
+    ensures value { HaveValues config.old (member ∷ []) → by_lists config.new ≡ with_picked (part_of known.now) (by_lists config.old) picked (member ∷ []) }
     ensures lengths { KeepsLengths config.old config.new }
 {
     if !known.symbol(member) && (member as usize) < config.values.len() {
@@ -25,7 +25,7 @@ fn complete_member(config: &mut Config, known: &Known, picked: Option<u32>, memb
 
 /// Sets the values of the members that aren't known.
 fn complete_members(config: &mut Config, known: &Known, picked: Option<u32>, members: &[u32])
-    ensures value { HaveValues config.old members.now → configuration_of config.new ≡ with_picked (part_of known.now) (configuration_of config.old) picked members.now }
+    ensures value { HaveValues config.old members.now → by_lists config.new ≡ with_picked (part_of known.now) (by_lists config.old) picked members.now }
     ensures lengths { KeepsLengths config.old config.new }
 {
     for member in members {
@@ -36,7 +36,7 @@ fn complete_members(config: &mut Config, known: &Known, picked: Option<u32>, mem
 /// Sets the mode of a choice, unless it is known.
 fn complete_mode(config: &mut Config, known: &Known, choice: u32, mode: Trit)
     requires { choice < length config.old.modes }
-    ensures value { configuration_of config.new ≡ with_free_mode (part_of known.now) (configuration_of config.old) choice (rank mode) }
+    ensures value { by_lists config.new ≡ with_free_mode (part_of known.now) (by_lists config.old) choice (rank mode) }
     ensures lengths { KeepsLengths config.old config.new }
 {
     if !known.choice(choice) {
@@ -48,7 +48,7 @@ fn complete_mode(config: &mut Config, known: &Known, choice: u32, mode: Trit)
 fn complete_choice(tree: &Tree, config: &mut Config, known: &Known, choice: u32)
     requires choice { choice < length tree.now.shape.choices }
     requires fits { FitsTree tree.now.shape config.old }
-    ensures value { IsWellMade tree.now.shape → configuration_of config.new ≡ with_choice tree.now.shape (part_of known.now) (configuration_of config.old) choice }
+    ensures value { IsWellMade tree.now.shape → by_lists config.new ≡ with_choice tree.now.shape (part_of known.now) (by_lists config.old) choice }
     ensures lengths { KeepsLengths config.old config.new }
 {
     let mode = free_mode(tree, config, choice);
@@ -66,7 +66,7 @@ fn complete_choice(tree: &Tree, config: &mut Config, known: &Known, choice: u32)
 fn complete_symbol(tree: &Tree, config: &mut Config, known: &Known, sym: u32)
     requires sym { sym < length tree.now.shape.symbols }
     requires fits { FitsTree tree.now.shape config.old }
-    ensures value { configuration_of config.new ≡ with_symbol tree.now.shape (part_of known.now) (configuration_of config.old) sym }
+    ensures value { by_lists config.new ≡ with_symbol tree.now.shape (part_of known.now) (by_lists config.old) sym }
     ensures lengths { KeepsLengths config.old config.new }
 {
     match tree.member_of(sym) {
@@ -83,7 +83,7 @@ fn complete_symbol(tree: &Tree, config: &mut Config, known: &Known, sym: u32)
 /// Sets a node of the order to what it has without a user's setting, unless it is known.
 fn complete_node(tree: &Tree, config: &mut Config, known: &Known, node: Node)
     requires { FitsTree tree.now.shape config.old }
-    ensures value { IsWellMade tree.now.shape → IsNodeOf tree.now.shape node → configuration_of config.new ≡ with_node tree.now.shape (part_of known.now) (configuration_of config.old) node }
+    ensures value { IsWellMade tree.now.shape → IsNodeOf tree.now.shape node → by_lists config.new ≡ with_node tree.now.shape (part_of known.now) (by_lists config.old) node }
     ensures lengths { KeepsLengths config.old config.new }
 {
     match node {
@@ -106,7 +106,7 @@ fn complete_nodes(tree: &Tree, config: &mut Config, known: &Known, nodes: &[Node
     requires made { IsWellMade tree.now.shape }
     requires within { All (IsNodeOf tree.now.shape) nodes.now }
     requires fits { FitsTree tree.now.shape config.old }
-    ensures value { configuration_of config.new ≡ completed tree.now.shape (part_of known.now) (configuration_of config.old) nodes.now }
+    ensures value { by_lists config.new ≡ completed tree.now.shape (part_of known.now) (by_lists config.old) nodes.now }
     ensures lengths { KeepsLengths config.old config.new }
 {
     for node in nodes {
@@ -114,15 +114,14 @@ fn complete_nodes(tree: &Tree, config: &mut Config, known: &Known, nodes: &[Node
     }
 }
 
-/// Completes a configuration: what is known stays, and every other symbol and choice gets, in the tree's
-/// order, the value or mode that it has without a user's setting under the configuration so far. A choice
-/// and its members are set together.
+/// Completes a configuration: what is known stays, and every other symbol and choice has afterwards the value or mode
+/// that it has without a user's setting under the completed configuration.
 pub fn complete(tree: &Tree, config: &mut Config, known: &Known)
     requires fits { FitsTree tree.now.shape config.old }
-    ensures completed { configuration_of config.new ≡ completed tree.now.shape (part_of known.now) (configuration_of config.old) tree.now.order }
-    ensures kept { IsKeptBy (part_of known.now) (configuration_of config.old) (configuration_of config.new) }
-    ensures valid { IsClosedPart tree.now.shape (part_of known.now) → IsRightPart tree.now.shape (configuration_of config.old) (part_of known.now) → IsValid tree.now.shape (configuration_of config.new) }
-    ensures fits { FitsTree tree.now.shape config.new }
+    ensures kept { AgreeOn (part_of known.now) (configuration_of tree.now.shape config.old) (configuration_of tree.now.shape config.new) }
+    ensures rest { IsRest tree.now.shape (part_of known.now) (configuration_of tree.now.shape config.new) }
+    ensures valid { IsClosedPart tree.now.shape (part_of known.now) → IsRightPart tree.now.shape (configuration_of tree.now.shape config.old) (part_of known.now) → IsValid tree.now.shape (configuration_of tree.now.shape config.new) }
+    ensures lengths { KeepsLengths config.old config.new }
 {
     complete_nodes(tree, config, known, tree.order());
 }

@@ -20,6 +20,7 @@ mod selecting;
 mod texts;
 mod validity;
 mod values;
+mod writing;
 
 pub use completing::complete;
 pub use config::{Config, Known};
@@ -27,3 +28,4 @@ pub use free_values::calc;
 pub use laws::part_is_completed;
 pub use texts::config_text;
 pub use validity::is_valid;
+pub use writing::is_written;

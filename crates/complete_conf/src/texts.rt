@@ -1,6 +1,6 @@
 ghost use Rattle.std.specs.Prelude.{◌≡◌, ◌<◌, ◌++◌, IfOk, OnOk, length};
 ghost use Rattle.ut_logic.specs.Trit.{rank};
-ghost use Rattle.complete_conf.specs.Config.{configuration_of, FitsTree};
+ghost use Rattle.complete_conf.specs.Config.{by_lists, configuration_of, FitsTree};
 ghost use Rattle.complete_conf.specs.Text as spec;
 
 use crate::config::Config;
@@ -31,7 +31,7 @@ fn push_value(text: &mut Vec<u8>, name: &str, value: Trit) -> Result<(), AllocEr
 /// Writes the line of a symbol that counts as bool or tristate, and nothing for any other.
 fn push_symbol(text: &mut Vec<u8>, tree: &Tree, config: &Config, sym: u32) -> Result<(), AllocError>
     requires sym { sym < length tree.now.shape.symbols }
-    ensures { OnOk result (text.new.items ≡ text.old.items ++ spec.symbol_line tree.now.shape (configuration_of config.now) sym) }
+    ensures { OnOk result (text.new.items ≡ text.old.items ++ spec.symbol_line tree.now.shape (by_lists config.now) sym) }
 {
     match tree.counts_as(sym) {
         Counts::Neither => Ok(()),
@@ -43,7 +43,7 @@ fn push_symbol(text: &mut Vec<u8>, tree: &Tree, config: &Config, sym: u32) -> Re
 /// only error is out of memory.
 pub fn config_text(alloc: Global, tree: &Tree, config: &Config) -> Result<Vec<u8>, AllocError>
     requires fits { FitsTree tree.now.shape config.now }
-    ensures { IfOk result (λ text. text.items ≡ spec.text_of tree.now.shape (configuration_of config.now)) }
+    ensures { IfOk result (λ text. text.items ≡ spec.text_of tree.now.shape (configuration_of tree.now.shape config.now)) }
 {
     let mut text = Vec::new(alloc);
     for sym in 0..tree.symbols() {

@@ -1,8 +1,7 @@
 ghost use Rattle.std.specs.Prelude.{◌≡◌, ◌<◌, length, map};
 ghost use Rattle.ut_logic.specs.Trit.{rank};
 ghost use Rattle.kconf_tree.specs.Value as spec;
-ghost use Rattle.kconf_entries.specs.declared.expr.Expr.TheOpen.{Expr-F as step};
-ghost use Rattle.complete_conf.specs.Config.{configuration_of};
+ghost use Rattle.complete_conf.specs.Config.{by_lists};
 
 use crate::config::Config;
 use crate::outer_truths::{comparison_value, outer_value};
@@ -13,7 +12,7 @@ use ut_logic::{Text, Trit, trit_and, trit_not, trit_or};
 /// The value that a symbol stands for.
 pub fn own_value(tree: &Tree, config: &Config, sym: u32) -> Trit
     requires { sym < length tree.now.shape.symbols }
-    ensures { rank result ≡ spec.own_value tree.now.shape (configuration_of config.now) sym }
+    ensures { rank result ≡ spec.own_value tree.now.shape (by_lists config.now) sym }
 {
     match tree.counts_as(sym) {
         Counts::Bool | Counts::Tristate => config.value(sym),
@@ -23,7 +22,7 @@ pub fn own_value(tree: &Tree, config: &Config, sym: u32) -> Trit
 
 /// The value that a name stands for.
 fn name_value(tree: &Tree, config: &Config, name: &Text) -> Trit
-    ensures { rank result ≡ spec.name_value tree.now.shape (configuration_of config.now) name.now }
+    ensures { rank result ≡ spec.name_value tree.now.shape (by_lists config.now) name.now }
 {
     match tree.symbol(name.text()) {
         None => Trit::N,
@@ -33,7 +32,7 @@ fn name_value(tree: &Tree, config: &Config, name: &Text) -> Trit
 
 /// Whether the modules symbol isn't n.
 pub fn has_modules(tree: &Tree, config: &Config) -> bool
-    ensures { result ≡ spec.has_modules tree.now.shape (configuration_of config.now) }
+    ensures { result ≡ spec.has_modules tree.now.shape (by_lists config.now) }
 {
     match tree.modules() {
         None => false,
@@ -43,7 +42,7 @@ pub fn has_modules(tree: &Tree, config: &Config) -> bool
 
 /// The value of a constant.
 fn const_value(tree: &Tree, config: &Config, place: Place, trit: Trit) -> Trit
-    ensures { rank result ≡ spec.const_value tree.now.shape (configuration_of config.now) place trit }
+    ensures { rank result ≡ spec.const_value tree.now.shape (by_lists config.now) place trit }
 {
     match trit {
         Trit::N => Trit::N,
@@ -63,7 +62,7 @@ fn const_value(tree: &Tree, config: &Config, place: Place, trit: Trit) -> Trit
 
 /// The value of a side of a comparison.
 fn side_value(tree: &Tree, config: &Config, side: &Side) -> Trit
-    ensures { rank result ≡ spec.side_value tree.now.shape (configuration_of config.now) side.now }
+    ensures { rank result ≡ spec.side_value tree.now.shape (by_lists config.now) side.now }
 {
     match side {
         Side::Const(trit) => *trit,
@@ -85,7 +84,7 @@ fn compared(sign: Sign, a: Trit, b: Trit) -> Trit
 
 /// The value of a comparison.
 fn compare_value(tree: &Tree, config: &Config, left: &Side, sign: Sign, right: &Side) -> Trit
-    ensures { rank result ≡ spec.value_step tree.now.shape (configuration_of config.now) Place.Condition (step.Compare left.now sign right.now) }
+    ensures { rank result ≡ spec.comparison_value tree.now.shape (by_lists config.now) left.now sign right.now (spec.comparison_of tree.now.shape left.now sign right.now) }
 {
     if tree.compares_trits(left, sign, right) {
         let left = side_value(tree, config, left);
@@ -99,7 +98,7 @@ fn compare_value(tree: &Tree, config: &Config, left: &Side, sign: Sign, right: &
 /// The least value of a list.
 #[cycle(value)]
 fn least_of(tree: &Tree, config: &Config, place: Place, list: &[Expr]) -> Trit
-    ensures { rank result ≡ spec.least (map (spec.value_in tree.now.shape (configuration_of config.now) place) list.now) }
+    ensures { rank result ≡ spec.least (map (spec.value_in tree.now.shape (by_lists config.now) place) list.now) }
 {
     let mut least = Trit::Y;
     for part in list {
@@ -111,7 +110,7 @@ fn least_of(tree: &Tree, config: &Config, place: Place, list: &[Expr]) -> Trit
 /// The greatest value of a list.
 #[cycle(value)]
 pub fn greatest_of(tree: &Tree, config: &Config, place: Place, list: &[Expr]) -> Trit
-    ensures { rank result ≡ spec.greatest (map (spec.value_in tree.now.shape (configuration_of config.now) place) list.now) }
+    ensures { rank result ≡ spec.greatest (map (spec.value_in tree.now.shape (by_lists config.now) place) list.now) }
 {
     let mut greatest = Trit::N;
     for part in list {
@@ -123,7 +122,7 @@ pub fn greatest_of(tree: &Tree, config: &Config, place: Place, list: &[Expr]) ->
 /// The value of an expression at a place.
 #[cycle(value)]
 pub fn value_in(tree: &Tree, config: &Config, place: Place, e: &Expr) -> Trit
-    ensures { rank result ≡ spec.value_in tree.now.shape (configuration_of config.now) place e.now }
+    ensures { rank result ≡ spec.value_in tree.now.shape (by_lists config.now) place e.now }
 {
     match e {
         Expr::Const(trit) => const_value(tree, config, place, *trit),

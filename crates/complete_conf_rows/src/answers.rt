@@ -1,16 +1,28 @@
 //! What is asked of the trees of Kconfig texts with configurations.
 
-use crate::configs::{config_of, fits, known_of, push_letters};
+use crate::configs::{config_of, known_of, push_letter};
 use complete_conf::{Config, calc, complete, config_text, is_valid};
 use kconf_tree::Tree;
 use std::alloc::{AllocError, Global};
 use std::test::Fail;
-use test_texts::tree_of;
+use test_texts::{imply_tree_of, tree_of, tristate_tree_of};
+
+/// The tree of a text. Where it begins with `imply; ` each `select` of the rest stands for `imply`, where it begins with
+/// `tristate; ` each choice for a tristate one.
+fn tree_by(alloc: Global, text: &str) -> Result<Tree, Fail> {
+    if let Some(rest) = text.strip_prefix("imply; ") {
+        return imply_tree_of(alloc, rest);
+    }
+    if let Some(rest) = text.strip_prefix("tristate; ") {
+        return tristate_tree_of(alloc, rest);
+    }
+    tree_of(alloc, text)
+}
 
 /// The tree of a row, and the words before its text.
 fn parts(alloc: Global, row: &str) -> Result<(Tree, &str), Fail> {
     let (words, text) = row.split_once(" | ").ok_or("words and a text")?;
-    Ok((tree_of(alloc, text)?, words))
+    Ok((tree_by(alloc, text)?, words))
 }
 
 /// The first word, and the others.
@@ -23,20 +35,21 @@ pub fn validity_of(alloc: Global, row: &str) -> Result<String, Fail> {
     let (tree, words) = parts(alloc, row)?;
     let (values, words) = first(words);
     let (modes, outers) = first(words);
-    let config = config_of(alloc, values, modes, outers)?;
-    if !fits(&tree, &config) {
-        return Err(Fail::from("other counts"));
-    }
+    let config = config_of(alloc, &tree, values, modes, outers)?;
     let word = if is_valid(&tree, &config) { "y" } else { "n" };
     Ok(String::from_str(alloc, word)?)
 }
 
 /// The values and modes of a configuration, with `,` between.
-fn written(alloc: Global, config: &Config) -> Result<String, AllocError> {
+fn written(alloc: Global, tree: &Tree, config: &Config) -> Result<String, AllocError> {
     let mut text = String::new(alloc);
-    push_letters(&mut text, config.values.as_slice())?;
+    for sym in 0..tree.symbols() {
+        push_letter(&mut text, config.value(sym))?;
+    }
     text.push(',')?;
-    push_letters(&mut text, config.modes.as_slice())?;
+    for choice in 0..tree.choices() {
+        push_letter(&mut text, config.mode(choice))?;
+    }
     Ok(text)
 }
 
@@ -46,12 +59,9 @@ pub fn completed(alloc: Global, row: &str) -> Result<String, Fail> {
     let (values, words) = first(words);
     let (syms, words) = first(words);
     let (modes, choices) = first(words);
-    let mut config = config_of(alloc, values, modes, "")?;
-    if !fits(&tree, &config) {
-        return Err(Fail::from("other counts"));
-    }
+    let mut config = config_of(alloc, &tree, values, modes, "")?;
     complete(&tree, &mut config, &known_of(alloc, syms, choices)?);
-    Ok(written(alloc, &config)?)
+    Ok(written(alloc, &tree, &config)?)
 }
 
 /// The value of a symbol of a tree without a user's setting: the values, the modes and the symbol's number.
@@ -60,21 +70,18 @@ pub fn value_of(alloc: Global, row: &str) -> Result<String, Fail> {
     let (values, words) = first(words);
     let (modes, sym) = first(words);
     let sym = sym.parse::<u32>()?;
-    let config = config_of(alloc, values, modes, "")?;
-    if tree.symbols() <= sym || !fits(&tree, &config) {
-        return Err(Fail::from("other counts"));
+    let config = config_of(alloc, &tree, values, modes, "")?;
+    if tree.symbols() <= sym {
+        return Err(Fail::from("no such symbol"));
     }
     let mut text = String::new(alloc);
-    push_letters(&mut text, &[calc(&tree, &config, sym)])?;
+    push_letter(&mut text, calc(&tree, &config, sym))?;
     Ok(text)
 }
 
 /// The text of a configuration of these values.
 pub fn text_of(alloc: Global, row: &str) -> Result<String, Fail> {
     let (tree, values) = parts(alloc, row)?;
-    let config = config_of(alloc, values, "", "")?;
-    if !fits(&tree, &config) {
-        return Err(Fail::from("other counts"));
-    }
+    let config = config_of(alloc, &tree, values, "", "")?;
     Ok(String::from_utf8(config_text(alloc, &tree, &config)?)?)
 }

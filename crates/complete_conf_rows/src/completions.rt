@@ -35,3 +35,25 @@ nn 00 n 0 | choice; bool "c"; default B if n; config A; bool "a"; config B; bool
 fn choices_are_completed(rt: HostRuntime) -> Result<(), Fail> {
     check_lines(rt.alloc(), CHOICES, completed)
 }
+
+/// Implied symbols, and tristate choices.
+const NEWER: &str = r#"
+-- an implied symbol follows what implies it, as far as its dependency goes
+yn 10 - - | imply; config A; bool "a"; select B; config B; bool "b" => yy,
+nn 10 - - | imply; config A; bool "a"; select B; config B; bool "b" => nn,
+ynn 101 - - | imply; config A; bool "a"; select B; config B; bool "b"; depends on C; config C; bool "c" => ynn,
+yny 101 - - | imply; config A; bool "a"; select B; config B; bool "b"; depends on C; config C; bool "c" => yyy,
+-- the least mode: m with modules, y without, n where the choice is optional or not seen
+ynn 100 n 0 | tristate; config M; bool "m"; modules; choice; bool "c"; config X; tristate "x"; config Y; tristate "y"; endchoice => ynn,m
+nnn 100 n 0 | tristate; config M; bool "m"; modules; choice; bool "c"; config X; tristate "x"; config Y; tristate "y"; endchoice => nyn,y
+ynn 100 n 0 | tristate; config M; bool "m"; modules; choice; bool "c"; optional; config X; tristate "x"; config Y; tristate "y"; endchoice => ynn,n
+ynn 100 n 0 | tristate; config M; bool "m"; modules; choice; bool "c" if n; config X; tristate "x"; config Y; tristate "y"; endchoice => ynn,n
+-- a known choice stays
+yny 111 y 1 | tristate; config M; bool "m"; modules; choice; bool "c"; config X; tristate "x"; config Y; tristate "y"; endchoice => yny,y
+ymm 111 m 1 | tristate; config M; bool "m"; modules; choice; bool "c"; config X; tristate "x"; config Y; tristate "y"; endchoice => ymm,m
+"#;
+
+#[test]
+fn newer_forms_are_completed(rt: HostRuntime) -> Result<(), Fail> {
+    check_lines(rt.alloc(), NEWER, completed)
+}

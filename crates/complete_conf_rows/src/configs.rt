@@ -1,11 +1,12 @@
 //! Configurations written in letters, for tables; `-` is none.
-ghost use Rattle.std.specs.Bool.{OnTrue};
+ghost use Rattle.std.specs.Prelude.{IfOk};
 ghost use Rattle.complete_conf.specs.Config.{FitsTree};
 
 use complete_conf::{Config, Known};
 use kconf_tree::Tree;
 use sqlite_items::Items;
 use std::alloc::{AllocError, Global};
+use std::test::Fail;
 use ut_logic::Trit;
 
 /// The value of a letter.
@@ -15,17 +16,6 @@ fn trit(letter: u8) -> Trit {
         b'm' => Trit::M,
         _ => Trit::N,
     }
-}
-
-/// The values of letters.
-fn trits(alloc: Global, text: &str) -> Result<Items<Trit>, AllocError> {
-    let mut list = Items::new(alloc);
-    for letter in text.as_bytes() {
-        if *letter != b'-' {
-            list.push(trit(*letter))?;
-        }
-    }
-    Ok(list)
 }
 
 /// The truths of digits.
@@ -48,38 +38,75 @@ fn letter(trit: Trit) -> char {
     }
 }
 
-/// Writes the letters of values.
-pub fn push_letters(text: &mut String, list: &[Trit]) -> Result<(), AllocError> {
-    for trit in list {
-        text.push(letter(*trit))?;
+/// Writes the letter of a value.
+pub fn push_letter(text: &mut String, trit: Trit) -> Result<(), AllocError> {
+    text.push(letter(trit))
+}
+
+/// The letters of a word; `-` has none.
+fn letters(word: &str) -> &[u8] {
+    if word == "-" {
+        "".as_bytes()
+    } else {
+        word.as_bytes()
+    }
+}
+
+/// Sets the values of the symbols, a letter for each.
+fn set_values(tree: &Tree, config: &mut Config, letters: &[u8]) -> Result<(), Fail>
+    requires { FitsTree tree.now.shape config.old }
+    ensures { FitsTree tree.now.shape config.new }
+{
+    if letters.len() != tree.symbols() as usize {
+        return Err(Fail::from("another count of values"));
+    }
+    for sym in 0..tree.symbols() {
+        config.set_value(sym, trit(letters[sym as usize]));
     }
     Ok(())
 }
 
-/// Whether a configuration has the tree's counts.
-pub fn fits(tree: &Tree, config: &Config) -> bool
-    ensures { OnTrue result (FitsTree tree.now.shape config.now) }
+/// Sets the modes of the choices, a letter for each.
+fn set_modes(tree: &Tree, config: &mut Config, letters: &[u8]) -> Result<(), Fail>
+    requires { FitsTree tree.now.shape config.old }
+    ensures { FitsTree tree.now.shape config.new }
 {
-    config.values.len() == tree.symbols() as usize
-        && config.modes.len() == tree.choices() as usize
-        && tree.outers() <= config.outers.len() as u64
+    if letters.len() != tree.choices() as usize {
+        return Err(Fail::from("another count of modes"));
+    }
+    for choice in 0..tree.choices() {
+        config.set_mode(choice, trit(letters[choice as usize]));
+    }
+    Ok(())
 }
 
-/// A configuration.
+/// Sets the truths of the outer conditions, a digit for each; past the last digit they stay false.
+fn set_outers(tree: &Tree, config: &mut Config, digits: &[u8])
+    requires { FitsTree tree.now.shape config.old }
+    ensures { FitsTree tree.now.shape config.new }
+{
+    for number in 0..tree.outers() {
+        if let Some(digit) = digits.get(number as usize) {
+            config.set_outer(number, *digit == b'1');
+        }
+    }
+}
+
+/// A configuration of a tree. An error is another count of values or of modes than the tree's, or want of memory.
 pub fn config_of(
     alloc: Global,
+    tree: &Tree,
     values: &str,
     modes: &str,
     outers: &str,
-) -> Result<Config, AllocError> {
-    let values = trits(alloc, values)?;
-    let modes = trits(alloc, modes)?;
-    let outers = flags(alloc, outers)?;
-    Ok(Config {
-        values,
-        modes,
-        outers,
-    })
+) -> Result<Config, Fail>
+    ensures { IfOk result (FitsTree tree.now.shape) }
+{
+    let mut config = Config::none(alloc, tree)?;
+    set_values(tree, &mut config, letters(values))?;
+    set_modes(tree, &mut config, letters(modes))?;
+    set_outers(tree, &mut config, letters(outers));
+    Ok(config)
 }
 
 /// What is known.

@@ -102,3 +102,62 @@ y y - | choice; bool "c" if n; config A; bool "a"; endchoice => n
 fn choices(rt: HostRuntime) -> Result<(), Fail> {
     check_lines(rt.alloc(), CHOICES, validity_of)
 }
+
+/// What an imply gives.
+const IMPLIES: &str = r#"
+-- an implied symbol without a prompt follows what implies it, as far as its dependency goes
+ny - - | imply; config A; bool "a"; select B; config B; bool => n
+yy - - | imply; config A; bool "a"; select B; config B; bool => y
+yn - - | imply; config A; bool "a"; select B; config B; bool => n
+yyn - - | imply; config A; bool "a"; select B; config B; bool; depends on C; config C; bool "c" => n
+ynn - - | imply; config A; bool "a"; select B; config B; bool; depends on C; config C; bool "c" => y
+yyy - - | imply; config A; bool "a"; select B; config B; bool; depends on C; config C; bool "c" => y
+-- a user may still set one with a prompt to n
+yn - - | imply; config A; bool "a"; select B; config B; bool "b" => y
+yy - - | imply; config A; bool "a"; select B; config B; bool "b" => y
+-- an imply raises a default and doesn't lower it
+yyy - - | imply; config M; bool "m"; modules; config A; tristate "a"; select B; config B; tristate; default m => y
+ymm - - | imply; config M; bool "m"; modules; config A; tristate "a"; select B; config B; tristate; default m => y
+ymn - - | imply; config M; bool "m"; modules; config A; tristate "a"; select B; config B; tristate; default m => n
+ymy - - | imply; config M; bool "m"; modules; config A; tristate "a"; select B; config B; tristate; default y => y
+"#;
+
+#[test]
+fn implies(rt: HostRuntime) -> Result<(), Fail> {
+    check_lines(rt.alloc(), IMPLIES, validity_of)
+}
+
+/// The modes of a tristate choice.
+const MODES: &str = r#"
+-- in mode y one member is y and the others are n
+yyn y - | tristate; config M; bool "m"; modules; choice; bool "c"; config X; tristate "x"; config Y; tristate "y"; endchoice => y
+yyy y - | tristate; config M; bool "m"; modules; choice; bool "c"; config X; tristate "x"; config Y; tristate "y"; endchoice => n
+ynn y - | tristate; config M; bool "m"; modules; choice; bool "c"; config X; tristate "x"; config Y; tristate "y"; endchoice => n
+yym y - | tristate; config M; bool "m"; modules; choice; bool "c"; config X; tristate "x"; config Y; tristate "y"; endchoice => n
+-- in mode m each tristate member is n or m
+ymm m - | tristate; config M; bool "m"; modules; choice; bool "c"; config X; tristate "x"; config Y; tristate "y"; endchoice => y
+ynm m - | tristate; config M; bool "m"; modules; choice; bool "c"; config X; tristate "x"; config Y; tristate "y"; endchoice => y
+ynn m - | tristate; config M; bool "m"; modules; choice; bool "c"; config X; tristate "x"; config Y; tristate "y"; endchoice => y
+yym m - | tristate; config M; bool "m"; modules; choice; bool "c"; config X; tristate "x"; config Y; tristate "y"; endchoice => n
+ymn m - | tristate; config M; bool "m"; modules; choice; bool "c"; config X; bool "x"; config Y; tristate "y"; endchoice => n
+ynm m - | tristate; config M; bool "m"; modules; choice; bool "c"; config X; bool "x"; config Y; tristate "y" if n; endchoice => n
+-- mode n only where it is optional
+ynn n - | tristate; config M; bool "m"; modules; choice; bool "c"; config X; tristate "x"; config Y; tristate "y"; endchoice => n
+ynn n - | tristate; config M; bool "m"; modules; choice; bool "c"; optional; config X; tristate "x"; config Y; tristate "y"; endchoice => y
+-- seen as m it has no mode y, and is not raised
+ymyn y - | tristate; config M; bool "m"; modules; config P; tristate "p"; choice; bool "c" if P; config X; tristate "x"; config Y; tristate "y"; endchoice => n
+ymmn m - | tristate; config M; bool "m"; modules; config P; tristate "p"; choice; bool "c" if P; config X; tristate "x"; config Y; tristate "y"; endchoice => y
+-- of members seen as m a bool can be y, and a tristate can't
+ymyn y - | tristate; config M; bool "m"; modules; config P; tristate "p"; choice; bool "c"; config X; bool "x" if P; config Y; tristate "y" if P; endchoice => y
+ymny y - | tristate; config M; bool "m"; modules; config P; tristate "p"; choice; bool "c"; config X; bool "x" if P; config Y; tristate "y" if P; endchoice => n
+-- without modules it counts as bool
+nyn y - | tristate; config M; bool "m"; modules; choice; bool "c"; config X; tristate "x"; config Y; tristate "y"; endchoice => y
+nmn m - | tristate; config M; bool "m"; modules; choice; bool "c"; config X; tristate "x"; config Y; tristate "y"; endchoice => n
+nnn m - | tristate; config M; bool "m"; modules; choice; bool "c"; config X; tristate "x"; config Y; tristate "y"; endchoice => n
+yn y - | tristate; choice; bool "c"; config X; tristate "x"; config Y; tristate "y"; endchoice => y
+"#;
+
+#[test]
+fn modes_of_tristate_choices(rt: HostRuntime) -> Result<(), Fail> {
+    check_lines(rt.alloc(), MODES, validity_of)
+}

@@ -18,6 +18,7 @@ use Rattle.cpp_blocks.specs.Mentions.{names_at}
 use Rattle.cpp_blocks.specs.Run.{Start, Running, OpenChain, holds, opened, turned, closed, sets, given, step, run_from}
 use Rattle.cpp_blocks.specs.Solution.{states_after}
 use Rattle.cpp_blocks.specs.Steps.{Standing, after, fact_at, facts_along}
+use Rattle.cpp_blocks.specs.Steps as Steps
 use Rattle.cpp_blocks.specs.Turns.{turn_of, touched_at}
 use Rattle.cpp_blocks.proofs.CondTruth.{is_known, Known, known_front, known_back, and_front, StatesStand}
 use Rattle.cpp_blocks.proofs.Meeting.{Each, met}
@@ -75,6 +76,39 @@ step_keeps start r line (Undef x) b l = (l, refl)
 pub run_keeps : (start : Start) (ds : List Directive) (r : Running) (b : ℕ) → b < length r.blocks → get_or (run_from start r ds).blocks b false ≡ get_or r.blocks b false
 run_keeps start [] r b l = refl
 run_keeps start (d ∷ ds) r b l = let k = step_keeps start r d.line d.what b l in run_keeps start ds (step start r d) b k.0 ∙ k.1
+
+pub run_within : (start : Start) (ds : List Directive) (r : Running) (b : ℕ) → b < length r.blocks → b < length (run_from start r ds).blocks
+run_within start [] r b l = l
+run_within start (d ∷ ds) r b l = run_within start ds (step start r d) b (step_keeps start r d.line d.what b l).0
+
+-- ---- as many blocks as directives begin
+
+turn_both : (at : Standing) (r : Running) (cs : List OpenGroups) (os : List OpenChain) (h : Bool) → length cs ≡ length os → at.chains ≡ cs → r.chains ≡ os → length r.blocks ≡ at.next
+    → (length (turned r os h).blocks ≡ (Steps.turned at cs).next) × (length (Steps.turned at cs).chains ≡ length (turned r os h).chains)
+turn_both at r [] [] h e f g n = (n, (λ i. length (f i)) ∙ sym (λ i. length (g i)))
+turn_both at r [] (o ∷ os) h e f g n = absurd (omega arith)
+turn_both at r (c ∷ cs) [] h e f g n = absurd (omega arith)
+turn_both at r (c ∷ cs) (o ∷ os) h e f g n = (omega (arith, length-append r.blocks ((o.around && (not o.taken && h)) ∷ []), n), e)
+
+close_both : (at : Standing) (r : Running) (cs : List OpenGroups) (os : List OpenChain) → length cs ≡ length os → r.chains ≡ os → length r.blocks ≡ at.next
+    → (length (closed r os).blocks ≡ at.next) × (length (Steps.round cs) ≡ length (closed r os).chains)
+close_both at r [] [] e g n = (n, sym (λ i. length (g i)))
+close_both at r [] (o ∷ os) e g n = absurd (omega arith)
+close_both at r (c ∷ cs) [] e g n = absurd (omega arith)
+close_both at r (c ∷ cs) (o ∷ os) e g n = (n, omega arith)
+
+both_step : (start : Start) (w : What) (line : ℕ) (at : Standing) (r : Running) → length r.blocks ≡ at.next → length at.chains ≡ length r.chains
+    → (length (step start r (record { line = line; what = w })).blocks ≡ (after at w).next) × (length (after at w).chains ≡ length (step start r (record { line = line; what = w })).chains)
+both_step start (If c) line at r n e = (omega (arith, length-append r.blocks ((r.on && holds start r c) ∷ []), n), ap suc e)
+both_step start (Elif c) line at r n e = turn_both at r at.chains r.chains (holds start r c) e refl refl n
+both_step start Else line at r n e = turn_both at r at.chains r.chains true e refl refl n
+both_step start Endif line at r n e = close_both at r at.chains r.chains e refl n
+both_step start (Define x gives) line at r n e = (n, e)
+both_step start (Undef x) line at r n e = (n, e)
+
+pub blocks_begun : (start : Start) (ds : List Directive) (at : Standing) (r : Running) → length r.blocks ≡ at.next → length at.chains ≡ length r.chains → length (run_from start r ds).blocks ≡ (at_end at ds).next
+blocks_begun start [] at r n e = n
+blocks_begun start (d ∷ ds) at r n e = let s = both_step start d.what d.line at r n e in blocks_begun start ds (after at d.what) (step start r d) s.0 s.1
 
 -- ---- the states that are still to come
 
@@ -165,7 +199,7 @@ module _ (src : Source) (start : Start) (v : Item → Bool) (pieces : (text : Li
 
   -- the blocks that are still to come are as in the run
   abbrev BlocksCome : Running → List Directive → Type 0
-  BlocksCome r ds = (b : ℕ) → v (item.Block src.file b) ≡ get_or (run_from start r ds).blocks b false
+  BlocksCome r ds = (b : ℕ) → b < length (run_from start r ds).blocks → v (item.Block src.file b) ≡ get_or (run_from start r ds).blocks b false
 
   -- the states after the next directive come as in the run
   come_after : (touched : List (List ℕ)) (r : Running) (d : Directive) (ds : List Directive) → StatesCome src start v touched r (d ∷ ds) → StatesCome src start v (touched ++ touched_at d.what) (step start r d) ds
@@ -195,9 +229,12 @@ module _ (src : Source) (start : Start) (v : Item → Bool) (pieces : (text : Li
       by (Define x gives) rest = line x ((step start r (record { line = d.line; what = Define x gives })).macros name) (states_after start (step start r (record { line = d.line; what = Define x gives })) name ds) rest
       by (Undef x) rest = line x ((step start r (record { line = d.line; what = Undef x })).macros name) (states_after start (step start r (record { line = d.line; what = Undef x })) name ds) rest
 
+  here : (r : Running) (bs : List Bool) (on : Bool) (next : ℕ) → length bs ≡ next → r.blocks ≡ bs ++ on ∷ [] → next < length r.blocks
+  here r bs on next h e = subst (λ (xs : List Bool). next < length xs) (sym e) (omega (arith, length-append bs (on ∷ [])))
+
   -- a block that is begun is as the run has it in the end
   begun : (r : Running) (ds : List Directive) (bs : List Bool) (on : Bool) (next : ℕ) → length bs ≡ next → r.blocks ≡ bs ++ on ∷ [] → BlocksCome r ds → v (item.Block src.file next) ≡ on
-  begun r ds bs on next h e come = come next ∙ (run_keeps start ds r next (subst (λ (xs : List Bool). next < length xs) (sym e) (omega (arith, length-append bs (on ∷ []))))
+  begun r ds bs on next h e come = come next (run_within start ds r next (here r bs on next h e)) ∙ (run_keeps start ds r next (here r bs on next h e)
       ∙ (ap (λ (xs : List Bool). get_or xs next false) e ∙ last_of bs on next h))
 
   group_right : (at : Standing) (touched : List (List ℕ)) (r : Running) (ds : List Directive) (h : Bool) (cs : List OpenGroups) (os : List OpenChain) → Stands src v at touched r → BlocksCome (turned r os h) ds → RightGroup src v at.next cs os h

@@ -9,4 +9,11 @@ mod Meeting
 mod Along
 mod Numbers
 mod Sorted
+mod Listing
+mod Ranks
+mod OwnLaws
+mod NodesLaws
+mod AlikeLaws
+mod OnceLaws
 mod SolutionLaws
+mod RunLaws

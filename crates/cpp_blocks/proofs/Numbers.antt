@@ -1,5 +1,6 @@
--- Names have numbers within their list, and the blocks of a source whose chains match are those that it begins.
-use Rattle.std.proofs.Common.{◌≡◌, ℕ, ◌+◌, ◌<◌, suc, Bool, true, false, not, ◌&&◌, ◌||◌, cond, List, [], ◌∷◌, ◌++◌, length, get_or, refl, sym, ap, ◌∙◌, arith}
+-- Names have numbers within their list, and the blocks of a source that is well formed are those that it begins.
+use Rattle.std.proofs.Common.{◌≡◌, ℕ, ◌+◌, ◌<◌, ◌≤◌, zero, suc, Bool, true, false, not, ◌&&◌, ◌||◌, cond, List, [], ◌∷◌, ◌++◌, length, length-append, get_or, refl, sym, ap, subst, ◌∙◌, arith}
+use Rattle.std.specs.Prelude.{Ok, is_ok}
 use Rattle.std.specs.List.{list_any, list_all, flat_map, position_or_len}
 use Rattle.std.proofs.lemmas.Bool.{false≢true}
 use Rattle.std.proofs.lemmas.List.Folds.{list_any-append}
@@ -10,13 +11,13 @@ use Rattle.cpp_directives.specs.declared.directive.What.TheVariants.{If, Elif, E
 use Rattle.cpp_blocks.specs.declared.groups.OpenGroups.{OpenGroups}
 use Rattle.cpp_blocks.specs.Blocks.{outside, open_after, parent_at, next_after, parents_from}
 use Rattle.cpp_blocks.specs.Formulas.{source_of}
-use Rattle.cpp_blocks.specs.Mentions.{with_new, firsts, names_at}
-use Rattle.cpp_blocks.specs.Steps.{Standing, after}
+use Rattle.cpp_blocks.specs.Mentions.{with_new, firsts, names_at, names_of, AreEachOnce}
+use Rattle.cpp_blocks.specs.Steps.{Standing, current, after}
 use Rattle.cpp_blocks.specs.Steps as Steps
-use Rattle.cpp_directives.specs.declared.well_formed.Chain.{Chain}
-use Rattle.cpp_directives.specs.WellFormed.{takes_group, with_group, may_stand, chains_after, closed, chains_match}
+use Rattle.cpp_directives.specs.Chains.{Earlier, Opener, Group, Closer, chain_at, passing, part_of}
+use Rattle.cpp_directives.specs.WellFormed.{all_passing}
+use Rattle.cpp_directives.proofs.ChainLaws.{next_passes, opening_is, turning_is, closing_is}
 use Rattle.cpp_blocks.proofs.Along.{AllKnown, at_end}
-use Rattle.cpp_blocks.proofs.CondTruth.{and_front, and_back}
 
 -- ---- numbers of names
 
@@ -75,37 +76,106 @@ all_among seen (y ∷ more) = (λ i. stays_among y (with_new text_eq seen y) mor
 pub all_known : (file : ℕ) (ds : List Directive) → AllKnown (source_of file ds) ds
 all_known file ds = all_among [] (flat_map (λ d. names_at d.what) ds)
 
+-- ---- each once
+
+is_false : (b : Bool) → (b ≡ true → ⊥) → b ≡ false
+is_false true h = absurd (h refl)
+is_false false h = refl
+
+neither : (a b : Bool) → (a || b) ≡ false → (a ≡ false) × (b ≡ false)
+neither true b h = absurd (false≢true (sym h))
+neither false b h = (refl, h)
+
+one_more : {A : Type 0} (eq : A → A → Bool) (symm : (x y : A) → eq x y ≡ eq y x) (seen : List A) (x : A) → AreEachOnce eq seen → list_any (eq x) seen ≡ false → AreEachOnce eq (seen ++ x ∷ [])
+one_more eq symm [] x d h = (refl, tt)
+one_more eq symm (y ∷ ys) x d h = let w = neither (eq x y) (list_any (eq x) ys) h in
+    (list_any-append (eq y) ys (x ∷ []) ∙ (λ i. d.0 i || ((symm y x ∙ w.0) i || false)), one_more eq symm ys x d.1 w.1)
+
+-- what is new is put after what is seen, each once
+pub firsts_once : {A : Type 0} (eq : A → A → Bool) (symm : (x y : A) → eq x y ≡ eq y x) (seen more : List A) → AreEachOnce eq seen → AreEachOnce eq (firsts eq seen more)
+firsts_once eq symm seen [] d = d
+firsts_once eq symm seen (x ∷ more) d = by (list_any (eq x) seen) refl (firsts_once eq symm seen more d) (firsts_once eq symm (seen ++ x ∷ []) more)
+  where
+    by : (b : Bool) → list_any (eq x) seen ≡ b → AreEachOnce eq (firsts eq seen more) → (AreEachOnce eq (seen ++ x ∷ []) → AreEachOnce eq (firsts eq (seen ++ x ∷ []) more)) → AreEachOnce eq (firsts eq (cond b seen (seen ++ x ∷ [])) more)
+    by true e old new = old
+    by false e old new = new (one_more eq symm seen x d e)
+
+pub names_once : (ds : List Directive) → AreEachOnce text_eq (names_of ds)
+names_once ds = firsts_once text_eq text_equiv.symm [] (flat_map (λ d. names_at d.what) ds) tt
+
+-- a name has its own number
+number_of : (xs : List (List ℕ)) → AreEachOnce text_eq xs → (k : ℕ) → k < length xs → (list_any (text_eq (get_or xs k [])) xs ≡ true) × (position_or_len (text_eq (get_or xs k [])) xs ≡ k)
+number_of [] d k l = absurd (omega arith)
+number_of (x ∷ xs) d zero l = (or_left (text_eq x x) (list_any (text_eq x) xs) (text_equiv.refl x), ap (λ b. cond (not b) (1 + position_or_len (text_eq x) xs) 0) (text_equiv.refl x))
+number_of (x ∷ xs) d (suc k) l = let r = number_of xs d.1 k (omega arith) in
+    let apart = is_false (text_eq (get_or xs k []) x) (λ e. false≢true (sym d.0 ∙ subst (λ z. list_any (text_eq z) xs ≡ true) (text_eq-exact (get_or xs k []) x e) r.0)) in (
+      or_right (text_eq (get_or xs k []) x) (list_any (text_eq (get_or xs k [])) xs) r.0,
+      ap (λ b. cond (not b) (1 + position_or_len (text_eq (get_or xs k [])) xs) 0) apart ∙ next k (position_or_len (text_eq (get_or xs k [])) xs) r.1,
+    )
+  where
+    next : (k p : ℕ) → p ≡ k → 1 + p ≡ suc k
+    next k p e = omega arith
+
+pub name_number : (ds : List Directive) (k : ℕ) → k < length (names_of ds) → (list_any (text_eq (get_or (names_of ds) k [])) (names_of ds) ≡ true) × (position_or_len (text_eq (get_or (names_of ds) k [])) (names_of ds) ≡ k)
+name_number ds k l = number_of (names_of ds) (names_once ds) k l
+
 -- ---- the number of blocks
 
-some_chain : (at : Standing) (cs : List Chain) (chains : List OpenGroups) → length chains ≡ length cs → takes_group cs ≡ true
-    → ((Steps.turned at chains).next ≡ suc at.next) × ((b : Bool) → length (Steps.turned at chains).chains ≡ length (with_group b cs))
-some_chain at [] chains h g = absurd (false≢true g)
-some_chain at (c ∷ cs) [] h g = absurd (omega arith)
-some_chain at (c ∷ cs) (o ∷ os) h g = (refl, λ b. h)
+-- as many chains are open at least as the earlier directives tell
+abbrev pub Covers : List Earlier → List OpenGroups → Type 0
+Covers before chains = (k : ℕ) → length chains ≤ k → chain_at before k ≡ []
 
-round_length : (cs : List Chain) (chains : List OpenGroups) → length chains ≡ length cs → length (Steps.round chains) ≡ length (closed cs)
-round_length [] [] h = refl
-round_length [] (o ∷ os) h = absurd (omega arith)
-round_length (c ∷ cs) [] h = absurd (omega arith)
-round_length (c ∷ cs) (o ∷ os) h = omega arith
+pub none_covered : Covers [] []
+none_covered k l = refl
 
--- the next block after directives whose chains match
-pub next_at_end : (ds : List Directive) (at : Standing) (cs : List Chain) (next : ℕ) (inside : List ℕ) → length at.chains ≡ length cs → chains_match cs ds ≡ true
+-- what a directive that may stand there leaves
+pub record Next (more : List Earlier) (at : Standing) (inside : List ℕ) (w : What) : Type 0 where
+  pub next_is : (after at w).next ≡ at.next + length (parent_at inside w)
+  pub covers : Covers more (after at w).chains
+
+open_covers : (n : ℕ) (before : List Earlier) (c : OpenGroups) (chains : List OpenGroups) → Covers before chains → Covers (Opener n ∷ before) (c ∷ chains)
+open_covers n before c chains h zero l = absurd (omega arith)
+open_covers n before c chains h (suc k) l = h k (omega arith)
+
+turn_covers : (e : Bool) (before : List Earlier) (c d : OpenGroups) (cs : List OpenGroups) → Covers before (c ∷ cs) → Covers (Group e ∷ before) (d ∷ cs)
+turn_covers e before c d cs h zero l = absurd (omega arith)
+turn_covers e before c d cs h (suc k) l = h (suc k) l
+
+turn_next : (e : Bool) (before more : List Earlier) (at : Standing) (chains : List OpenGroups) → Covers before chains → more ≡ Group e ∷ before → (chain_at before 0 ≡ [] → ⊥)
+    → ((Steps.turned at chains).next ≡ at.next + 1) × Covers more (Steps.turned at chains).chains
+turn_next e before more at [] h is some = absurd (some (h 0 (omega arith)))
+turn_next e before more at (c ∷ cs) h is some = (
+  omega arith,
+  subst (λ (b : List Earlier). Covers b (record { parent = c.parent; earlier = c.earlier ++ c.current ∷ []; current = at.next } ∷ cs)) (sym is)
+      (turn_covers e before c (record { parent = c.parent; earlier = c.earlier ++ c.current ∷ []; current = at.next }) cs h),
+)
+
+close_covers : (before more : List Earlier) (chains : List OpenGroups) → Covers before chains → more ≡ Closer ∷ before → (chain_at before 0 ≡ [] → ⊥) → Covers more (Steps.round chains)
+close_covers before more [] h is some = absurd (some (h 0 (omega arith)))
+close_covers before more (c ∷ cs) h is some = subst (λ (b : List Earlier). Covers b cs) (sym is) (λ k l. h (suc k) (omega arith))
+
+pub next_step : (w : What) (n : ℕ) (at : Standing) (before more : List Earlier) (inside : List ℕ) → Covers before at.chains → passing (part_of w) n before ≡ Ok more → Next more at inside w
+next_step (If c) n at before more inside h p = record {
+  next_is = omega arith;
+  covers = subst (λ (b : List Earlier). Covers b (after at (If c)).chains) (sym (opening_is n before more p).0) (open_covers n before (record { parent = current at.chains; earlier = []; current = at.next }) at.chains h);
+}
+next_step (Elif c) n at before more inside h p = let t = turning_is false n before (chain_at before 0) more p in
+    let go = turn_next false before more at at.chains h t.0 t.2 in record { next_is = go.0; covers = go.1 }
+next_step Else n at before more inside h p = let t = turning_is true n before (chain_at before 0) more p in
+    let go = turn_next true before more at at.chains h t.0 t.2 in record { next_is = go.0; covers = go.1 }
+next_step Endif n at before more inside h p = let t = closing_is n before (chain_at before 0) more p in
+    record { next_is = omega arith; covers = close_covers before more at.chains h t.0 t.1 }
+next_step (Define x gives) n at before more inside h p = let same : before ≡ more = cc in record { next_is = omega arith; covers = subst (λ (b : List Earlier). Covers b at.chains) same h }
+next_step (Undef x) n at before more inside h p = let same : before ≡ more = cc in record { next_is = omega arith; covers = subst (λ (b : List Earlier). Covers b at.chains) same h }
+
+-- the next block after directives that may stand where they do
+pub next_at_end : (ds : List Directive) (at : Standing) (before : List Earlier) (next : ℕ) (inside : List ℕ) → Covers before at.chains → is_ok (all_passing before ds) ≡ true
     → (at_end at ds).next ≡ at.next + length (parents_from next inside ds)
-next_at_end [] at cs next inside h m = omega arith
-next_at_end (d ∷ ds) at cs next inside h m = by d.what (and_front (may_stand cs d.what) (chains_match (chains_after cs d.what) ds) m) (and_back (may_stand cs d.what) (chains_match (chains_after cs d.what) ds) m)
-    (λ at' cs' next' inside'. next_at_end ds at' cs' next' inside')
-  where
-    by : (w : What) → may_stand cs w ≡ true → chains_match (chains_after cs w) ds ≡ true
-        → ((at' : Standing) (cs' : List Chain) (next' : ℕ) (inside' : List ℕ) → length at'.chains ≡ length cs' → chains_match cs' ds ≡ true → (at_end at' ds).next ≡ at'.next + length (parents_from next' inside' ds))
-        → (at_end (after at w) ds).next ≡ at.next + length (parent_at inside w ++ parents_from (next_after next w) (open_after next inside w) ds)
-    by (If c) stand rest go = let e : (at_end (after at (If c)) ds).next ≡ suc at.next + length (parents_from (suc next) (next ∷ inside) ds) = go (after at (If c)) (chains_after cs (If c)) (suc next) (next ∷ inside) (ap suc h) rest in omega arith
-    by (Elif c) stand rest go = let s = some_chain at cs at.chains h stand in
-        let n = s.0 in
-        let e = go (after at (Elif c)) (chains_after cs (Elif c)) (suc next) (next ∷ outside inside) (s.1 false) rest in omega arith
-    by Else stand rest go = let s = some_chain at cs at.chains h stand in
-        let n = s.0 in
-        let e = go (after at Else) (chains_after cs Else) (suc next) (next ∷ outside inside) (s.1 true) rest in omega arith
-    by Endif stand rest go = go (after at Endif) (chains_after cs Endif) next (outside inside) (round_length cs at.chains h) rest
-    by (Define x gives) stand rest go = go at cs next inside h rest
-    by (Undef x) stand rest go = go at cs next inside h rest
+next_at_end [] at before next inside h m = omega arith
+next_at_end (d ∷ ds) at before next inside h m =
+    let p = next_passes before d ds m in
+    let s = next_step d.what d.line at before p.0 inside h p.1 in
+    let step : (after at d.what).next ≡ at.next + length (parent_at inside d.what) = s.next_is in
+    let rest : (at_end (after at d.what) ds).next ≡ (after at d.what).next + length (parents_from (next_after next d.what) (open_after next inside d.what) ds) = next_at_end ds (after at d.what) p.0 (next_after next d.what) (open_after next inside d.what) s.covers p.2 in
+    let all : length (parent_at inside d.what ++ parents_from (next_after next d.what) (open_after next inside d.what) ds) ≡ length (parent_at inside d.what) + length (parents_from (next_after next d.what) (open_after next inside d.what) ds) = length-append (parent_at inside d.what) (parents_from (next_after next d.what) (open_after next inside d.what) ds) in
+    omega (arith, step, rest, all)

@@ -21,17 +21,17 @@ use Rattle.cpp_blocks.specs.declared.starts.BuiltOf.{BuiltOf}
 use Rattle.cpp_blocks.specs.declared.state.MacroState.{MacroState}
 use Rattle.cpp_blocks.specs.declared.state.MacroState.TheVariants.{Undefined}
 use Rattle.cpp_blocks.specs.Blocks.{count_of}
-use Rattle.cpp_blocks.specs.Facts.{file_fact, start_fact, start_holds, is_free, is_block, states_from, at_first, facts_of, is_of_run, is_outside, Implies, AreStarts}
+use Rattle.cpp_blocks.specs.Facts.{file_fact, start_fact, start_holds, is_free, is_block, is_state, states_from, at_first, facts_of, is_of_run, is_outside, Implies, AreStarts}
 use Rattle.cpp_blocks.specs.Formulas.{Source, source_of, name_in}
 use Rattle.cpp_blocks.specs.Mentions.{names_of}
-use Rattle.cpp_blocks.specs.Run.{beginning, Start, is_defined, is_true, is_on_in}
+use Rattle.cpp_blocks.specs.Run.{beginning, Start, is_defined, is_true, is_on_in, run_from}
 use Rattle.cpp_blocks.specs.Solution.{state_of, start_state, start_of, states_after, states_of, IsRun, is_own, AreStates, IsTheRun}
 use Rattle.cpp_blocks.specs.Steps.{facts_along}
 use Rattle.cpp_directives.specs.WellFormed.{IsWellFormed}
-use Rattle.cpp_blocks.proofs.Along.{each_front, each_back, each_both, at_end, run_keeps, StatesCome, stands_at_end, states_come, meets_along}
+use Rattle.cpp_blocks.proofs.Along.{each_front, each_back, each_both, at_end, run_keeps, blocks_begun, StatesCome, stands_at_end, states_come, meets_along}
 use Rattle.cpp_blocks.proofs.CondTruth.{is_known, and_front, and_back}
 use Rattle.cpp_blocks.proofs.Meeting.{Each, each_of, all_of_each}
-use Rattle.cpp_blocks.proofs.Numbers.{place_within, place_is, all_known, next_at_end}
+use Rattle.cpp_blocks.proofs.Numbers.{place_within, place_is, all_known, name_number, none_covered, next_at_end}
 use Rattle.cpp_blocks.proofs.Sorted.{facts_of_kind, lines_of, starts_of, states_all, blocks_all}
 use Rattle.cpp_blocks.proofs.Standing.{Stands, RightState}
 
@@ -161,7 +161,7 @@ the_one file ds starts built formed count given v meets = record { blocks = bloc
     begin = begins file ds (start_of (source_of file ds) starts built v) v ((each_of (IsDefined v) (record { item = item.Block file 0; formula = built.formula } ∷ []) front.0.defined).0) started
 
     blocks : (b : ℕ) → b ≤ count_of ds → v (item.Block file b) ≡ is_on_in (start_of (source_of file ds) starts built v) ds b
-    blocks b l = let next : (at_end at_first ds).next ≡ 1 + count_of ds = next_at_end ds at_first [] 1 [] refl formed.chains in
+    blocks b l = let next : (at_end at_first ds).next ≡ 1 + count_of ds = next_at_end ds at_first [] 1 [] none_covered formed.chains in
         (stands_at_end (source_of file ds) (start_of (source_of file ds) starts built v) v (λ text turn. refl) (λ line. refl) ds at_first [] (beginning (start_of (source_of file ds) starts built v)) begin (all_known file ds) meets_lines).blocks_are b (omega arith)
 
     come : StatesCome (source_of file ds) (start_of (source_of file ds) starts built v) v [] (beginning (start_of (source_of file ds) starts built v)) ds
@@ -257,7 +257,7 @@ the_some file ds starts built given outside v chosen =
     let begin : Stands (source_of file ds) (solution file ds starts (start_of (source_of file ds) starts built v) v) at_first [] (beginning (start_of (source_of file ds) starts built v)) =
     begins file ds (start_of (source_of file ds) starts built v) (solution file ds starts (start_of (source_of file ds) starts built v) v) at_zero (λ name known. right_state file ds starts built v name 0 known) in
     let meets_lines = meets_along (source_of file ds) (start_of (source_of file ds) starts built v) (solution file ds starts (start_of (source_of file ds) starts built v) v) (λ text turn. refl) (λ line. refl) ds at_first [] (beginning (start_of (source_of file ds) starts built v)) begin (all_known file ds)
-    (λ b. on_block file ds starts (start_of (source_of file ds) starts built v) v b) (λ name known k l. later name known k) in
+    (λ b l. on_block file ds starts (start_of (source_of file ds) starts built v) v b) (λ name known k l. later name known k) in
     all_of_each (Meets (solution file ds starts (start_of (source_of file ds) starts built v) v)) (facts_of file ds starts built)
     (each_both (Meets (solution file ds starts (start_of (source_of file ds) starts built v) v)) (file_fact file built ∷ filter (λ f. is_block f.node) (facts_along (source_of file ds) [] at_first ds)) (states_from file (facts_along (source_of file ds) [] at_first ds) 0 starts) (
       record { held = refl; defined = all_of_each (IsDefined (solution file ds starts (start_of (source_of file ds) starts built v) v)) (record { item = item.Block file 0; formula = built.formula } ∷ []) (at_zero ∙ sym (outside_same file ds starts (start_of (source_of file ds) starts built v) v built.formula outside), tt) },
@@ -276,10 +276,77 @@ the_some file ds starts built given outside v chosen =
         subst (λ t. RightState (source_of file ds) (solution file ds starts (start_of (source_of file ds) starts built v) v) name t (get_or (states_after (start_of (source_of file ds) starts built v) (beginning (start_of (source_of file ds) starts built v)) name ds) k Undefined)) at
         (right_state file ds starts built v name (suc k) known)
 
+-- ---- the run meets the facts
+
+-- what is met has states at the start
+states_met : (v : Item → Bool) (file : ℕ) (lines : List Fact) (k : ℕ) (ss : List StartOf) → AreStarts file k ss → Each (Meets v) (states_from file lines k ss) → AreStates v ss
+states_met v file lines k [] a h = tt
+states_met v file lines k (s ∷ ss) a h =
+    let own = each_front (Meets v) (start_fact file k s ∷ filter (λ f. is_state k f.node) lines) (states_from file lines (suc k) ss) h in
+    (implied v file k s a.2 own.0.held, states_met v file lines (suc k) ss a.3 (each_back (Meets v) (start_fact file k s ∷ filter (λ f. is_state k f.node) lines) (states_from file lines (suc k) ss) h))
+
+-- where a run gives a start its state, the start is met
+start_back : (v : Item → Bool) (file : ℕ) (starts : List StartOf) (k : ℕ) (s : StartOf) → slice_get starts k ≡ Some s → (truth v s.t ≡ true → truth v s.d ≡ true)
+    → (v (item.StateD file k 0) ≡ is_defined (start_state v (slice_get starts k))) → (v (item.StateT file k 0) ≡ is_true (start_state v (slice_get starts k))) → Meets v (start_fact file k s)
+start_back v file starts k s e chosen d t = record {
+  held = held v file k s chosen;
+  defined = all_of_each (IsDefined v) (record { item = item.StateD file k 0; formula = s.d } ∷ record { item = item.StateT file k 0; formula = s.t } ∷ []) (
+    d ∙ (ap (λ o. is_defined (start_state v o)) e ∙ state_defined (truth v s.d) (truth v s.t)),
+    (t ∙ (ap (λ o. is_true (start_state v o)) e ∙ state_true (truth v s.d) (truth v s.t) chosen), tt),
+  );
+}
+
+within_some : (ss : List StartOf) (k : ℕ) (s : StartOf) → slice_get ss k ≡ Some s → k < length ss
+within_some [] k s e = absurd (cc)
+within_some (x ∷ ss) zero s e = omega arith
+within_some (x ∷ ss) (suc k) s e = let l : k < length ss = within_some ss k s e in omega arith
+
+the_back : (file : ℕ) (ds : List Directive) (starts : List StartOf) (built : BuiltOf) → IsWellFormed ds → length starts ≡ length (names_of ds) → (v : Item → Bool) → AreStates v starts
+    → IsRun (source_of file ds) ds (start_of (source_of file ds) starts built v) v → MeetsAll v (facts_of file ds starts built)
+the_back file ds starts built formed count v chosen run =
+    all_of_each (Meets v) (facts_of file ds starts built)
+    (each_both (Meets v) (file_fact file built ∷ filter (λ f. is_block f.node) (facts_along (source_of file ds) [] at_first ds)) (states_from file (facts_along (source_of file ds) [] at_first ds) 0 starts) (
+      record { held = refl; defined = all_of_each (IsDefined v) (record { item = item.Block file 0; formula = built.formula } ∷ []) (at_zero, tt) },
+      blocks_all (Meets v) (facts_along (source_of file ds) [] at_first ds) meets_lines,
+    )
+    (states_all (Meets v) file (facts_along (source_of file ds) [] at_first ds) 0 starts meets_lines
+    (λ j s e. let at : j ≡ 0 + j = omega arith in subst (λ n. Meets v (start_fact file n s)) at (start_at j s e))))
+  where
+    at_zero : v (item.Block file 0) ≡ truth v built.formula
+    at_zero = run.blocks 0 (omega arith) ∙ run_keeps (start_of (source_of file ds) starts built v) ds (beginning (start_of (source_of file ds) starts built v)) 0 (omega arith)
+
+    begin : Stands (source_of file ds) v at_first [] (beginning (start_of (source_of file ds) starts built v))
+    begin = begins file ds (start_of (source_of file ds) starts built v) v at_zero (λ name known. (run.defined name known 0 (omega arith), run.truths name known 0 (omega arith)))
+
+    many : length (run_from (start_of (source_of file ds) starts built v) (beginning (start_of (source_of file ds) starts built v)) ds).blocks ≡ 1 + count_of ds
+    many = blocks_begun (start_of (source_of file ds) starts built v) ds at_first (beginning (start_of (source_of file ds) starts built v)) refl refl ∙ next_at_end ds at_first [] 1 [] none_covered formed.chains
+
+    later : (name : List ℕ) → is_known (source_of file ds) name ≡ true → (k : ℕ) → k < length (states_after (start_of (source_of file ds) starts built v) (beginning (start_of (source_of file ds) starts built v)) name ds)
+        → RightState (source_of file ds) v name (0 + suc k) (get_or (states_after (start_of (source_of file ds) starts built v) (beginning (start_of (source_of file ds) starts built v)) name ds) k Undefined)
+    later name known k l = let at : suc k ≡ 0 + suc k = omega arith in
+        subst (λ t. RightState (source_of file ds) v name t (get_or (states_after (start_of (source_of file ds) starts built v) (beginning (start_of (source_of file ds) starts built v)) name ds) k Undefined)) at
+        (run.defined name known (suc k) (omega arith), run.truths name known (suc k) (omega arith))
+
+    meets_lines : Each (Meets v) (facts_along (source_of file ds) [] at_first ds)
+    meets_lines = meets_along (source_of file ds) (start_of (source_of file ds) starts built v) v (λ text turn. refl) (λ line. refl) ds at_first [] (beginning (start_of (source_of file ds) starts built v)) begin (all_known file ds)
+        (λ b l. run.blocks b (omega (arith, many))) later
+
+    start_at : (j : ℕ) (s : StartOf) → slice_get starts j ≡ Some s → Meets v (start_fact file j s)
+    start_at j s e =
+        let own = name_number ds j (omega (arith, within_some starts j s e)) in
+        let name = get_or (names_of ds) j [] in
+        let d = subst (λ k. v (item.StateD file k 0) ≡ is_defined (start_state v (slice_get starts k))) own.1 (run.defined name own.0 0 (omega arith)) in
+        let t = subst (λ k. v (item.StateT file k 0) ≡ is_true (start_state v (slice_get starts k))) own.1 (run.truths name own.0 0 (omega arith)) in
+        start_back v file starts j s e (start_state_at v starts chosen j s e) d t
+
 -- the facts of a source have exactly one solution, the run
 pub the_run : (file : ℕ) (ds : List Directive) (starts : List StartOf) (built : BuiltOf) → IsWellFormed ds → length starts ≡ length (names_of ds) → AreStarts file 0 starts → is_outside built.formula ≡ true
     → IsTheRun (source_of file ds) ds starts built (facts_of file ds starts built)
 the_run file ds starts built formed count given outside = record {
-  one = the_one file ds starts built formed count given;
+  exact = λ v. (λ meets. (states v meets, the_one file ds starts built formed count given v meets), λ both. the_back file ds starts built formed count v both.0 both.1);
   some = λ v chosen. (solution file ds starts (start_of (source_of file ds) starts built v) v, agrees file ds starts (start_of (source_of file ds) starts built v) v, the_some file ds starts built given outside v chosen);
 }
+  where
+    states : (v : Item → Bool) → MeetsAll v (facts_of file ds starts built) → AreStates v starts
+    states v meets = states_met v file (facts_along (source_of file ds) [] at_first ds) 0 starts given
+        (each_back (Meets v) (file_fact file built ∷ filter (λ f. is_block f.node) (facts_along (source_of file ds) [] at_first ds)) (states_from file (facts_along (source_of file ds) [] at_first ds) 0 starts) (each_of (Meets v) (facts_of file ds starts built) meets))

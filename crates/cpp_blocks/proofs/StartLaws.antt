@@ -1,17 +1,22 @@
 -- Free starts are as what is handed in is to be.
-use Rattle.std.proofs.Common.{◌≡◌, ℕ, ◌+◌, suc, true, not, ◌&&◌, List, [], ◌∷◌, ◌++◌, length, eqb, refl, sym, ap, ◌∙◌, subst, rules, arith}
-use Rattle.std.specs.List.{list_all}
+use Rattle.std.proofs.Common.{◌≡◌, inl, ℕ, ◌+◌, suc, true, not, ◌&&◌, List, [], ◌∷◌, ◌++◌, length, eqb, refl, sym, ap, ◌∙◌, subst, rules, arith}
+use Rattle.std.specs.List.{All, list_all}
 use Rattle.std.proofs.lemmas.Bool.{false≢true}
 use Rattle.std.proofs.lemmas.Bool.Decides.{nat_tests}
 use Rattle.ut_logic.specs.declared.item.Item.{Item}
 use Rattle.ut_logic.specs.declared.item.Item.TheVariants.{StartD, StartT}
-use Rattle.ut_logic.specs.declared.formula.Formula.{out-Formula}
+use Rattle.ut_logic.specs.declared.node.Node.{Node}
+use Rattle.ut_logic.specs.Assign.{is_in}
+use Rattle.ut_logic.specs.declared.formula.Formula.{Formula, out-Formula}
 use Rattle.ut_logic.specs.declared.formula.Formula.TheOpen.{Formula-F}
-use Rattle.ut_logic.specs.declared.formula.Formula.TheVariants.{Is}
+use Rattle.ut_logic.specs.declared.formula.Formula.TheVariants.{Yes, Is}
 use Rattle.ut_logic.specs.declared.formula.Formula.TheViews.{the_lemmas}
-use Rattle.ut_logic.proofs.MentionLaws.{mentioned-Is}
+use Rattle.ut_logic.proofs.MentionLaws.{mentioned-Yes, mentioned-Is}
+use Rattle.cpp_blocks.specs.declared.starts.BuiltOf.{BuiltOf}
 use Rattle.cpp_blocks.specs.declared.starts.StartOf.{StartOf}
 use Rattle.cpp_blocks.specs.Facts.{is_free, is_free_at, is_of_run, is_outside, Implies, AreStarts}
+use Rattle.cpp_blocks.specs.Nodes.{IsListedBy, IsListedFormula, IsListedStart, IsListedBuilt, IsOfTree}
+use Rattle.cpp_blocks.proofs.Listing.{says_none, says_is, in_first, in_later}
 
 starts_push : (file k : ℕ) (ss : List StartOf) (s : StartOf) → AreStarts file k ss → is_outside s.d ≡ true → is_outside s.t ≡ true → Implies file (k + length ss) s → AreStarts file k (ss ++ s ∷ [])
 starts_push file k [] s a od ot i = let at : k + 0 ≡ k = omega arith in (od, ot, subst (λ n. Implies file n s) at i, tt)
@@ -35,3 +40,20 @@ pub free_push : (file : ℕ) (ss : List StartOf) (s : StartOf) (n : ℕ) → Are
 free_push file ss s n a e d t = let at : n ≡ 0 + length ss = omega arith in
     starts_push file 0 ss s a (ap is_outside d ∙ outside_item (StartD file n) refl) (ap is_outside t ∙ outside_item (StartT file n) refl)
     (subst (λ m. Implies file m s) at (λ f. absurd (false≢true (sym f ∙ free_is file n s d))))
+
+-- a free start lists its items
+pub free_listed : (file n : ℕ) (s : StartOf) → s.d ≡ Is (StartD file n) → s.t ≡ Is (StartT file n) → s.names ≡ [] → s.items ≡ StartD file n ∷ StartT file n ∷ [] → IsListedStart s
+free_listed file n s d t names items = record {
+  nodes = subst (λ (ns : List Node). All IsOfTree ns) (sym names) (λ k x l. absurd (omega arith));
+  d = subst (λ (f : Formula). IsListedFormula s.names s.items f) (sym d) (says_is (IsListedBy s.names s.items) (StartD file n)
+      (inl (refl, subst (λ (is : List Item). is_in is (StartD file n) ≡ true) (sym items) (in_first (StartD file n) (StartT file n ∷ [])))));
+  t = subst (λ (f : Formula). IsListedFormula s.names s.items f) (sym t) (says_is (IsListedBy s.names s.items) (StartT file n)
+      (inl (refl, subst (λ (is : List Item). is_in is (StartT file n) ≡ true) (sym items) (in_later (StartT file n) (StartD file n) (StartT file n ∷ []) (in_first (StartT file n) [])))));
+}
+
+-- a source that is built in any case lists nothing
+pub yes_listed : (b : BuiltOf) → b.formula ≡ Yes → b.names ≡ [] → IsListedBuilt b
+yes_listed b f names = record {
+  nodes = subst (λ (ns : List Node). All IsOfTree ns) (sym names) (λ k x l. absurd (omega arith));
+  formula = subst (λ (x : Formula). IsListedFormula b.names b.items x) (sym f) (says_none (IsListedBy b.names b.items) Yes mentioned-Yes);
+}

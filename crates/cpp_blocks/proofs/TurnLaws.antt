@@ -9,7 +9,7 @@ use Rattle.ut_text.specs.Text.{text_eq, text_equiv}
 use Rattle.cpp_blocks.specs.declared.turns.Turns.{Turns}
 use Rattle.cpp_blocks.specs.Counted.{turn_in, IsCounted, piece_turn}
 use Rattle.cpp_blocks.specs.Mentions.{firsts}
-use Rattle.cpp_blocks.specs.Pieces.{names_of_piece}
+use Rattle.cpp_directives.specs.PieceNames.{names_of_piece}
 use Rattle.cpp_blocks.specs.Run.{touches}
 use Rattle.cpp_blocks.specs.Turns.{turn_of}
 

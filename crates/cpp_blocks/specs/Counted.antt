@@ -1,14 +1,11 @@
 -- What the functions on turns promise each other: the turns that are kept by name.
-use Rattle.std.specs.Prelude.{◌≡◌, ℕ, true, List, [], unwrap_or}
-use Rattle.std.specs.List.{sum_by, list_all}
+use Rattle.std.specs.Prelude.{◌≡◌, ℕ, List, [], unwrap_or}
+use Rattle.std.specs.List.{sum_by}
 use Rattle.indexmap.specs.IndexMap.{get}
 use Rattle.ut_text.specs.Bytes.{Bytes}
 use Rattle.ut_text.specs.Text.{text_eq}
-use Rattle.ut_text.specs.ByteClasses.{is_name_byte}
 use Rattle.cpp_blocks.specs.declared.turns.Turns.{Turns}
-use Rattle.cpp_blocks.specs.declared.piece_names.Scan.{Scan}
-use Rattle.cpp_blocks.specs.declared.piece_names.Scan.TheVariants as scan
-use Rattle.cpp_blocks.specs.Pieces.{Within, Between, Name, Number, Quotes, Escape, names_of_piece}
+use Rattle.cpp_directives.specs.PieceNames.{names_of_piece}
 use Rattle.cpp_blocks.specs.Mentions.{firsts}
 use Rattle.cpp_blocks.specs.Turns.{turn_of}
 
@@ -23,16 +20,3 @@ IsCounted turns touched = (name : Bytes) → turn_in turns name ≡ turn_of touc
 -- the sum of the turns of a piece's names
 abbrev pub piece_turn : Turns → Bytes → ℕ
 piece_turn turns text = sum_by (turn_in turns) (firsts text_eq [] (names_of_piece text))
-
--- where a scan of a piece's text stands
-abbrev pub within_of : Scan → Within
-within_of scan.Between = Between
-within_of (scan.Name word) = Name word.items
-within_of scan.Number = Number
-within_of (scan.Quotes mark) = Quotes mark
-within_of (scan.Escape mark) = Escape mark
-
--- the name that has begun there has bytes of names alone
-abbrev pub IsPlain : Within → Type 0
-IsPlain (Name name) = list_all is_name_byte name ≡ true
-IsPlain w = Unit {0}

@@ -1,4 +1,3 @@
-pub mod Pieces
 pub mod Blocks
 pub mod Run
 pub mod Mentions
@@ -13,4 +12,11 @@ pub mod Places
 pub mod Steps
 pub mod Facts
 pub mod Gathered
+pub mod Nodes
 pub mod Solution
+pub mod Alike
+pub mod Once
+pub mod StartWith
+pub mod RunStage
+pub mod RunGiven
+pub mod RunSteps

@@ -1,6 +1,6 @@
 -- The macro names of a source: those that its conditions and macro lines name, numbered from 0 by first
 -- appearance. Names inside opaque pieces do not count. This project's rule.
-use Rattle.std.specs.Prelude.{Bool, List, [], ◌∷◌, ◌++◌, if◌then◌else◌}
+use Rattle.std.specs.Prelude.{◌≡◌, Bool, false, List, [], ◌∷◌, ◌++◌, if◌then◌else◌}
 use Rattle.std.specs.List.{list_any, flat_map}
 use Rattle.ut_text.specs.Bytes.{Bytes}
 use Rattle.ut_text.specs.Text.{text_eq}
@@ -19,6 +19,11 @@ with_new eq xs x = if list_any (eq x) xs then xs else xs ++ x ∷ []
 abbrev pub firsts : {A : Type 0} → (A → A → Bool) → List A → List A → List A
 firsts eq seen [] = seen
 firsts eq seen (x ∷ more) = firsts eq (with_new eq seen x) more
+
+-- each member is equal to no later one
+abbrev pub AreEachOnce : {A : Type 0} → (A → A → Bool) → List A → Type 0
+AreEachOnce eq [] = Unit {0}
+AreEachOnce eq (x ∷ xs) = (list_any (eq x) xs ≡ false) × AreEachOnce eq xs
 
 -- the names of one layer of a condition, with those of each inner one in its place
 abbrev pub names_step : Cond-F (List Bytes) → List Bytes

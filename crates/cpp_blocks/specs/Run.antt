@@ -15,7 +15,7 @@ use Rattle.cpp_directives.specs.declared.directive.Gives.{Gives}
 use Rattle.cpp_directives.specs.declared.directive.Gives.TheVariants.{Zero, Nonzero, Free}
 use Rattle.cpp_blocks.specs.declared.state.MacroState.{MacroState}
 use Rattle.cpp_blocks.specs.declared.state.MacroState.TheVariants.{Undefined, DefinedFalse, DefinedTrue}
-use Rattle.cpp_blocks.specs.Pieces.{names_of_piece}
+use Rattle.cpp_directives.specs.PieceNames.{names_of_piece}
 
 -- what a run finds: each macro's state at the start, the truth of each opaque piece by its text and the
 -- number of earlier macro lines that touch it, and the truth of each free `#define` by its line

@@ -1,6 +1,6 @@
 -- The run of a source as the one solution of its facts: where the items that are free are chosen, exactly one
 -- choice of the source's blocks and states meets the facts, and it is that of the run. This project's rule.
-use Rattle.std.specs.Prelude.{◌≡◌, ℕ, ◌==◌, ◌<◌, ◌≤◌, Bool, true, false, Option, None, Some, List, [], ◌∷◌, ◌++◌, if◌then◌else◌, map, filter, length, get_or, slice_get}
+use Rattle.std.specs.Prelude.{◌≡◌, ◌↔◌, ℕ, ◌==◌, ◌<◌, ◌≤◌, Bool, true, false, Option, None, Some, List, [], ◌∷◌, ◌++◌, if◌then◌else◌, map, filter, length, get_or, slice_get}
 use Rattle.std.specs.List.{list_any}
 use Rattle.ut_text.specs.Bytes.{Bytes}
 use Rattle.ut_logic.specs.declared.item.Item.{Item}
@@ -72,7 +72,8 @@ abbrev pub AreStates : (Item → Bool) → List StartOf → Type 0
 AreStates v [] = Unit {0}
 AreStates v (start ∷ starts) = (truth v start.t ≡ true → truth v start.d ≡ true) × AreStates v starts
 
--- the facts have exactly one solution for each choice of the free items, and it is the run
+-- where the free items are chosen so that no macro is true at the start without being defined, the facts have exactly one
+-- solution: they are met just where each block and each state has the truth that the run gives it
 pub record IsTheRun (src : Source) (ds : List Directive) (starts : List StartOf) (built : BuiltOf) (facts : List Fact) : Type 0 where
-  pub one : (v : Item → Bool) → MeetsAll v facts → IsRun src ds (start_of src starts built v) v
+  pub exact : (v : Item → Bool) → MeetsAll v facts ↔ (AreStates v starts × IsRun src ds (start_of src starts built v) v)
   pub some : (v : Item → Bool) → AreStates v starts → (u : Item → Bool) × ((i : Item) → is_own src.file i ≡ false → u i ≡ v i) × MeetsAll u facts

@@ -14,11 +14,14 @@ mod conditions;
 mod facts;
 mod gathered;
 mod groups;
+mod laws;
 mod mentions;
 mod nesting;
-mod piece_names;
 mod pieces;
 mod place;
+mod run_blocks;
+mod run_states;
+mod running;
 mod shared;
 mod source_facts;
 mod starts;
@@ -27,7 +30,11 @@ mod turns;
 
 pub use blocks::Blocks;
 pub use cpp_directives::is_well_formed;
+pub use laws::{
+    lines_matter_where_truths_are_free, names_pieces_and_lines_are_once, runs_rest_on_what_is_named,
+};
 pub use pieces::PieceOf;
+pub use running::{RunStart, blocks_on};
 pub use source_facts::block_facts;
 pub use starts::{BuiltOf, StartOf};
 pub use state::MacroState;

@@ -2,6 +2,7 @@
 
 use crate::blocks::Blocks;
 use crate::pieces::PieceOf;
+use crate::running::RunStart;
 use crate::starts::{BuiltOf, StartOf};
 use crate::state::MacroState;
 
@@ -14,4 +15,5 @@ pub fn are_shared() {
     is_shared::<MacroState>();
     is_shared::<StartOf>();
     is_shared::<BuiltOf>();
+    is_shared::<RunStart>();
 }

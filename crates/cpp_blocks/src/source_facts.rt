@@ -1,10 +1,12 @@
-ghost use Rattle.std.specs.Prelude.{◌≡◌, ◌++◌, ◌∷◌, [], length, true, slice_get, IfOk, option_to_list};
+ghost use Rattle.std.specs.Prelude.{◌≡◌, ◌++◌, ◌∷◌, [], All, length, map, true, IfOk, option_to_list};
 ghost use Rattle.cpp_blocks.specs.Formulas.{source_of, states_in};
 ghost use Rattle.cpp_blocks.specs.Mentions.{names_of};
 ghost use Rattle.cpp_blocks.specs.Places.{source_at, turns_at};
 ghost use Rattle.cpp_blocks.specs.Solution.{IsTheRun};
 ghost use Rattle.cpp_blocks.specs.Steps as spec;
 ghost use Rattle.cpp_blocks.specs.Facts.{facts_of, AreStarts, is_outside};
+ghost use Rattle.cpp_blocks.specs.Nodes.{nodes_of, IsOrderly, IsListed, MentionsOwn, IsListedStart, IsListedBuilt};
+ghost use Rattle.ut_logic.specs.declared.facts.Fact as declared;
 
 use crate::blocks::Blocks;
 use crate::conditions::{add_states, formula};
@@ -140,9 +142,15 @@ pub fn block_facts(
 ) -> Result<Facts, AllocError>
     requires count { length starts.now ≡ length (names_of blocks.now) }
     requires given { AreStarts file 0 starts.now }
+    requires starts_listed { All IsListedStart starts.now }
     requires built { is_outside built.formula ≡ true }
+    requires built_listed { IsListedBuilt built }
     ensures facts { IfOk result (λ f. f.list ≡ facts_of file blocks.now starts.now built) }
     ensures run { IfOk result (λ f. IsTheRun (source_of file blocks.now) blocks.now starts.now built f.list) }
+    ensures known { IfOk result (λ f. map (λ (fact : declared.Fact). fact.node) f.list ≡ nodes_of file blocks.now) }
+    ensures orderly { IfOk result (λ f. All (IsOrderly file blocks.now) f.list) }
+    ensures listed { IfOk result (λ f. All IsListed f.list) }
+    ensures own { IfOk result (λ f. All (MentionsOwn file) f.list) }
 {
     let mut facts = Gathered::new(alloc, file, starts, built)?;
     let mut turns = Turns::new(alloc);

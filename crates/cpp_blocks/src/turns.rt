@@ -4,11 +4,10 @@ ghost use Rattle.ut_text.specs.Bytes.{Bytes};
 ghost use Rattle.ut_text.specs.Text.{text_eq};
 ghost use Rattle.cpp_blocks.specs.Mentions.{firsts};
 ghost use Rattle.cpp_blocks.specs.Counted.{turn_in, IsCounted, piece_turn};
-ghost use Rattle.cpp_blocks.specs.Pieces.{names_of_piece};
+ghost use Rattle.cpp_directives.specs.PieceNames.{names_of_piece};
 ghost use Rattle.cpp_blocks.specs.Turns.{touched_at};
 
-use crate::piece_names::piece_names;
-use cpp_directives::What;
+use cpp_directives::{What, piece_names};
 use indexmap::{IndexMap, IndexSet};
 use std::alloc::{AllocError, Global};
 use ut_logic::Text;

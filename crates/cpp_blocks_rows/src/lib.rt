@@ -9,6 +9,8 @@ mod blocks;
 #[cfg(test)]
 mod running;
 #[cfg(test)]
+mod runs;
+#[cfg(test)]
 mod starts;
 #[cfg(test)]
 mod tests;

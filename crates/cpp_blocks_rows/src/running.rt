@@ -1,20 +1,15 @@
 //! Which blocks are on where some items are chosen.
 
-use crate::starts::free_starts;
-use cpp_blocks::{Blocks, BuiltOf, block_facts};
+use crate::starts::{always_built, free_starts};
+use cpp_blocks::{Blocks, block_facts};
 use std::alloc::{AllocError, Global};
 use std::fmt::Write;
 use std::test::Fail;
-use ut_logic::{Assign, Facts, Formula, Item, Sequence, eval};
+use ut_logic::{Assign, Facts, Item, eval};
 
 fn facts(alloc: Global, blocks: &Blocks) -> Result<Facts, Fail> {
     let starts = free_starts(alloc, blocks.macro_names().len())?;
-    let built = BuiltOf {
-        formula: Formula::Yes,
-        names: Sequence::new(alloc),
-        items: Sequence::new(alloc),
-    };
-    Ok(block_facts(alloc, blocks, 0, &starts, built)?)
+    Ok(block_facts(alloc, blocks, 0, &starts, always_built(alloc))?)
 }
 
 /// The items, with those of the definitions that are true under them, and without those that are not.
@@ -61,7 +56,8 @@ fn item(word: &str) -> Option<Item> {
     }
 }
 
-fn chosen(alloc: Global, words: &str) -> Result<Vec<Item>, AllocError> {
+/// The items that words choose.
+pub fn chosen(alloc: Global, words: &str) -> Result<Vec<Item>, AllocError> {
     let mut items = Vec::new(alloc);
     for word in words.split(' ') {
         if let Some(item) = item(word) {

@@ -1,10 +1,11 @@
 use crate::blocks::blocks_of;
 use crate::running::on;
+use crate::runs::on_in_run;
 use cpp_blocks::Blocks;
 use std::alloc::{AllocError, Global};
 use std::fmt::Write;
 use std::test::Fail;
-use test_texts::check_lines;
+use test_rows::check_lines;
 
 /// The blocks of a row that are on.
 fn on_in(alloc: Global, row: &str) -> Result<String, Fail> {
@@ -52,12 +53,24 @@ p0 | #if p > 0; #endif; #if p > 0; #endif => 1 2
 p1 | #if p > 0; #endif; #if q > 0; #endif => 2
 p1 | #if f(1); #endif; #define f 1; #if f(1); #endif => 2
 p0 | #if f(1); #endif; #define g 1; #if f(1); #endif => 1 2
+p0 | #if é + 1; #endif; #define xc3 1; #if é + 1; #endif => 1 2
 | #ifdef A; #else; #endif; #ifdef B; #define C 1; #elif defined C; #endif => 2
 ";
 
 #[test]
 fn blocks_are_on_as_in_the_run(rt: HostRuntime) -> Result<(), Fail> {
     check_lines(rt.alloc(), ROWS, on_in)
+}
+
+/// The blocks of a row that are on in the run itself.
+fn run_in(alloc: Global, row: &str) -> Result<String, Fail> {
+    let (words, text) = row.split_once("| ").ok_or("words and a text")?;
+    on_in_run(alloc, &blocks_of(alloc, text)?, words)
+}
+
+#[test]
+fn the_run_turns_the_same_blocks_on(rt: HostRuntime) -> Result<(), Fail> {
+    check_lines(rt.alloc(), ROWS, run_in)
 }
 
 /// A comment before a word, a comment's start in a string, and a word over two lines. The names are
@@ -114,7 +127,9 @@ d5 t5 d6 t6 p0 => 1 5 6 8
 fn blocks_of_a_driver(rt: HostRuntime) -> Result<(), Fail> {
     let blocks = blocks_of(rt.alloc(), DRIVER)?;
     let answer = |alloc: Global, words: &str| on(alloc, &blocks, words);
-    check_lines(rt.alloc(), DRIVER_ROWS, answer)
+    check_lines(rt.alloc(), DRIVER_ROWS, answer)?;
+    let run = |alloc: Global, words: &str| on_in_run(alloc, &blocks, words);
+    check_lines(rt.alloc(), DRIVER_ROWS, run)
 }
 
 const SOURCE: &str = "\

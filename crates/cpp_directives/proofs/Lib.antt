@@ -1,0 +1,4 @@
+pub mod RefusalLaws
+pub mod StackLaws
+pub mod PieceNamesLaws
+pub mod ChainLaws

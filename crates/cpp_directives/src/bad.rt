@@ -4,13 +4,10 @@ use thiserror::Error;
 /// Why a source or a condition is refused. Lines are physical lines, counted from 1.
 #[derive(Debug, Drop, Clone, Copy, Error)]
 pub enum CppBad {
-    /// A form that is not read yet.
-    #[error("line {line}: not yet")]
-    NotYet { line: u32 },
-    /// `#elif`, `#else` or `#endif` where no chain is open.
+    /// `#elif`, `#elifdef`, `#elifndef`, `#else` or `#endif` where no chain is open.
     #[error("line {line}: unbalanced")]
     Unbalanced { line: u32 },
-    /// `#elif` or `#else` in a chain that has its `#else`.
+    /// `#elif`, `#elifdef`, `#elifndef` or `#else` in a chain that has its `#else`.
     #[error("line {line}: else")]
     ElseTwice { line: u32 },
     /// A chain that is opened inside 250 open ones.
@@ -19,7 +16,7 @@ pub enum CppBad {
     /// The 65,536th block of the source, or the 1,025th group of a chain.
     #[error("line {line}: many")]
     TooMany { line: u32 },
-    /// `#ifdef`, `#ifndef`, `#define` or `#undef` whose next token is no name.
+    /// `#ifdef`, `#ifndef`, `#elifdef`, `#elifndef`, `#define` or `#undef` whose next token is no name.
     #[error("line {line}: name")]
     NoName { line: u32 },
     /// A condition that cannot be read.

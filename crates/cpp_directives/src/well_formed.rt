@@ -1,125 +1,66 @@
-ghost use Rattle.std.specs.Prelude.{◌≡◌, ◌↔◌, ◌≤◌, [], IsTrue, IfOk, OnOk, nat_le};
+ghost use Rattle.std.specs.Prelude.{◌≡◌, ◌↔◌, [], List, IsTrue, IfOk, is_ok};
+ghost use Rattle.cpp_directives.specs.Chains as chain;
+ghost use Rattle.cpp_directives.specs.Chains.{Earlier};
+ghost use Rattle.cpp_directives.specs.Refusals.{IsRefusal};
+ghost use Rattle.cpp_directives.specs.Stack.{IsStackOf, Allows};
 ghost use Rattle.cpp_directives.specs.WellFormed as spec;
 
-use crate::directive::{Directive, What};
+use crate::bad::CppBad;
+use crate::directive::Directive;
+use crate::open_chains::OpenChains;
+use crate::part::part_of;
 use std::alloc::{AllocError, Global};
-use std::marker::Model;
 
-const MOST_DEPTH: usize = 250;
-
-const MOST_GROUPS: u32 = 1024;
-
-const MOST_BLOCKS: usize = 65_535;
-
-/// An open chain: the number of its groups so far, and whether `#else` began the last one.
-#[derive(Clone, Copy)]
-pub struct Chain {
-    pub groups: u32,
-    pub has_else: bool,
+/// Want of memory stays an error; each other refusal is one of the directives.
+fn refused(bad: CppBad) -> Result<(), AllocError>
+    ensures { IfOk result (λ u. IsRefusal bad) }
+{
+    match bad {
+        CppBad::Unbalanced { .. } | CppBad::ElseTwice { .. } => Ok(()),
+        CppBad::Depth { .. } | CppBad::TooMany { .. } => Ok(()),
+        CppBad::NoName { .. } | CppBad::Condition { .. } => Ok(()),
+        CppBad::Unclosed { .. } => Ok(()),
+        CppBad::Oom => Err(AllocError),
+    }
 }
 
-/// The open chains, from the outermost.
-#[derive(Drop)]
-struct Chains {
-    open: Vec<Chain>,
+/// Passes a directive, and tells whether it may stand where it does.
+fn passes(chains: &mut OpenChains, directive: &Directive) -> Result<bool, AllocError>
+    ensures { IfOk result (λ b. (before : List Earlier) → IsStackOf chains.old before → Allows b chains.new (chain.passing (chain.part_of directive.now.what) directive.now.line before)) }
+{
+    match chains.pass(part_of(&directive.what), directive.line) {
+        Ok(()) => Ok(true),
+        Err(bad) => {
+            refused(bad)?;
+            Ok(false)
+        }
+    }
 }
 
-impl Model for Chains {
-    ghost use Rattle.std.specs.Prelude.{List, reverse};
-    ghost use Rattle.cpp_directives.specs.declared.well_formed.Chain.{Chain};
-
-    ghost Value = { List Chain };
-
-    ghost view = { λ c. reverse c.open.items };
-}
-
-impl Chains {
-    /// Whether some chain is open.
-    fn is_inside(&self) -> bool
-        ensures { result ≡ spec.is_inside self.now }
-    {
-        !self.open.is_empty()
-    }
-
-    /// Whether the innermost chain has room for one more group.
-    fn takes_group(&self) -> bool
-        ensures { result ≡ spec.takes_group self.now }
-    {
-        match self.open.last() {
-            Some(chain) => !chain.has_else && chain.groups < MOST_GROUPS,
-            None => false,
-        }
-    }
-
-    /// Whether the directive may stand inside these chains.
-    fn takes(&self, what: &What) -> bool
-        ensures { result ≡ spec.may_stand self.now what.now }
-    {
-        match what {
-            What::If(_) => self.open.len() < MOST_DEPTH,
-            What::Elif(_) => self.takes_group(),
-            What::Else => self.takes_group(),
-            What::Endif => self.is_inside(),
-            What::Define { .. } => true,
-            What::Undef { .. } => true,
-        }
-    }
-
-    /// One more group of the innermost chain.
-    fn turn(&mut self, is_else: bool) -> Result<(), AllocError>
-        ensures { OnOk result (self.new ≡ spec.with_group is_else self.old) }
-    {
-        match self.open.pop() {
-            Some(chain) => {
-                let groups = chain.groups.checked_add(1).ok_or(AllocError)?;
-                self.open.push(Chain {
-                    groups,
-                    has_else: is_else,
-                })?;
-                Ok(())
-            }
-            None => Ok(()),
-        }
-    }
-
-    /// Passes a directive.
-    fn pass(&mut self, what: &What) -> Result<(), AllocError>
-        ensures { OnOk result (self.new ≡ spec.chains_after self.old what.now) }
-    {
-        match what {
-            What::If(_) => {
-                self.open.push(Chain {
-                    groups: 1,
-                    has_else: false,
-                })?;
-                Ok(())
-            }
-            What::Elif(_) => self.turn(false),
-            What::Else => self.turn(true),
-            What::Endif => {
-                self.open.pop();
-                Ok(())
-            }
-            What::Define { .. } => Ok(()),
-            What::Undef { .. } => Ok(()),
+/// Whether no chain is left open.
+fn is_closed(chains: &OpenChains) -> Result<bool, AllocError>
+    ensures { IfOk result (λ b. (before : List Earlier) → IsStackOf chains.now before → b ≡ is_ok (chain.at_end before)) }
+{
+    match chains.end() {
+        Ok(()) => Ok(true),
+        Err(bad) => {
+            refused(bad)?;
+            Ok(false)
         }
     }
 }
 
 /// Whether each directive may stand where it does, and no chain is left open.
 fn do_chains_match(alloc: Global, list: &[Directive]) -> Result<bool, AllocError>
-    ensures { IfOk result (λ b. b ≡ spec.chains_match [] list.now) }
+    ensures { IfOk result (λ b. b ≡ is_ok (spec.all_passing [] list.now)) }
 {
-    let mut chains = Chains {
-        open: Vec::new(alloc),
-    };
+    let mut chains = OpenChains::new(alloc);
     for directive in list {
-        if !chains.takes(&directive.what) {
+        if !passes(&mut chains, directive)? {
             return Ok(false);
         }
-        chains.pass(&directive.what)?;
     }
-    Ok(!chains.is_inside())
+    is_closed(&chains)
 }
 
 /// Whether each directive stands on a later line than the one before it.
@@ -136,37 +77,14 @@ fn do_lines_rise(list: &[Directive]) -> bool
     true
 }
 
-/// Whether the directive begins a block.
-fn begins_block(what: &What) -> bool
-    ensures { result ≡ spec.begins_block what.now }
-{
-    match what {
-        What::If(_) | What::Elif(_) | What::Else => true,
-        What::Endif | What::Define { .. } | What::Undef { .. } => false,
-    }
-}
-
-/// The number of directives that begin a block.
-fn block_count(list: &[Directive]) -> usize
-    ensures { result ≡ spec.block_count list.now }
-{
-    let mut count = 0;
-    for directive in list {
-        if begins_block(&directive.what) {
-            count += 1;
-        }
-    }
-    count
-}
-
-/// Whether the directives are as those of each source that is read: chains match, lines rise, and the limits
-/// of 250 open chains, 1,024 groups of a chain and 65,535 blocks hold. The only error is want of memory.
+/// Whether the directives are as those of each source that is read: each may stand where it does, no chain is
+/// left open, and lines rise. The only error is want of memory.
 ///
-/// Rule: ISO C, "Conditional inclusion"; the limits are this project's.
+/// Rule: ISO C, "Conditional inclusion"; the limits of 250 open chains, 1,024 groups of a chain and 65,535 blocks
+/// are this project's.
 pub fn is_well_formed(alloc: Global, list: &[Directive]) -> Result<bool, AllocError>
     ensures { IfOk result (λ b. IsTrue b ↔ spec.IsWellFormed list.now) }
 {
-    let few = block_count(list) <= MOST_BLOCKS;
     let matching = do_chains_match(alloc, list)?;
-    Ok(matching && do_lines_rise(list) && few)
+    Ok(matching && do_lines_rise(list))
 }

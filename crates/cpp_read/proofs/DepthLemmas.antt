@@ -7,10 +7,10 @@ use Rattle.cpp_read.specs.declared.depth.Joint.{Joint}
 use Rattle.cpp_directives.specs.declared.condition.Cond.{Cond}
 use Rattle.cpp_directives.specs.declared.bad.CppBad.{CppBad}
 use Rattle.cpp_read.specs.Depth.{parts_at, parts, before_at, joins, deeper}
-use Rattle.cpp_read.specs.Conditions.{Reader, each, negated}
+use Rattle.cpp_read.specs.Conditions.{Reader, each}
 use Rattle.cpp_read.specs.ConditionSteps.{conds_after}
-use Rattle.cpp_read.specs.Refusals.{Fails}
-use Rattle.cpp_read.proofs.RefusalLemmas.{fails_by}
+use Rattle.cpp_directives.specs.Refusals.{Fails}
+use Rattle.cpp_directives.proofs.RefusalLaws.{fails_by}
 
 both : (x y : Bool) → (x && y) ≡ true → y ≡ true
 both true y h = h
@@ -73,9 +73,6 @@ next_part f front new j ts rest c whole h r e d w = rw (e, d)
 pub last_part : (f : Reader) (front new : List Cond) (j : Joint) (ts : List Token) (c : Cond) (whole : Result (List Cond) CppBad)
     → before_at j 0 ts ≡ length ts → f ts ≡ Ok c → new ≡ front ++ c ∷ [] → conds_after front (each f (parts j ts)) ≡ whole → whole ≡ Ok new
 last_part f front new j ts c whole h r e w = sym w ∙ ap (λ (ps : List (List Token)). conds_after front (each f ps)) (part_last j 0 ts h) ∙ rw (r, e) refl
-
-pub fails_negated : (e : CppBad) (read : Result Cond CppBad) → Fails e read → Fails e (negated read)
-fails_negated e read h = fails_by e read (negated read) (λ k is. rw is refl) h
 
 pub before_within : (j : Joint) (d : ℕ) (ts : List Token) → before_at j d ts ≤ length ts
 before_within j d [] = omega arith

@@ -1,9 +1,12 @@
 pub mod SplicesLemmas
-pub mod DirectiveLinesLemmas
+pub mod LogicalLinesLemmas
 pub mod StopsLemmas
 pub mod TokensLemmas
 pub mod NumberLemmas
-pub mod RefusalLemmas
 pub mod DepthLemmas
 pub mod ConditionLaws
+pub mod FormedLaws
 pub mod DirectivesLemmas
+pub mod PieceTextLaws
+pub mod RowLaws
+mod NestLaws

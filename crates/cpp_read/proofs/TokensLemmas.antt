@@ -3,7 +3,7 @@ use Rattle.std.proofs.Common.{◌≡◌, ℕ, ◌+◌, ◌<◌, ◌∷◌, Bool,
 use Rattle.std.specs.List.{prefix_len}
 use Rattle.std.proofs.lemmas.Bool.{false≢true}
 use Rattle.ut_text.specs.Bytes.{Bytes}
-use Rattle.cpp_read.specs.DirectiveLines.{is_white}
+use Rattle.cpp_read.specs.LogicalLines.{is_white}
 use Rattle.cpp_read.specs.Tokens.{spellings_after, spellings_of, more_of}
 use Rattle.cpp_read.specs.TokenSteps.{begins_token, token_len}
 use Rattle.cpp_read.specs.Words.{after_white}

@@ -51,11 +51,11 @@ mode_after Char b ahead = if b == backslash then CharEscape else if b == apostro
 mode_after CharEscape b ahead = if b == newline then Code else Char
 
 -- what is kept of a byte, in front of the rest
-abbrev pub onto : Option ℕ → ℕ → List PlacedByte → List PlacedByte
-onto None line s = s
-onto (Some b) line s = record { byte = b; line = line } ∷ s
+abbrev pub onto : Option ℕ → PlacedByte → List PlacedByte → List PlacedByte
+onto None c s = s
+onto (Some b) c s = record { byte = b; line = c.line; end = c.end } ∷ s
 
 -- what is kept of a text from this mode on
 abbrev pub uncommented : Mode → List PlacedByte → List PlacedByte
 uncommented m [] = []
-uncommented m (c ∷ s) = onto (kept_of m c.byte (first s)) c.line (uncommented (mode_after m c.byte (first s)) s)
+uncommented m (c ∷ s) = onto (kept_of m c.byte (first s)) c (uncommented (mode_after m c.byte (first s)) s)

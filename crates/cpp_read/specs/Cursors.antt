@@ -45,6 +45,6 @@ pub record Stands (bytes : Bytes) (at line : ℕ) : Type 0 where
 
 -- a splice, or the carriage return of a line end, is passed
 pub record Passes (bytes : Bytes) (at line to number : ℕ) : Type 0 where
-  pub same : spliced_bytes number (drop to bytes) ≡ spliced_bytes line (drop at bytes)
+  pub same : spliced_bytes to number (drop to bytes) ≡ spliced_bytes at line (drop at bytes)
   pub stands : Stands bytes to number
   pub onward : at < to

@@ -1,9 +1,8 @@
 -- what the contracts of public calls rest on
-pub mod Refusals
 pub mod Characters
 pub mod Splices
 pub mod Comments
-pub mod DirectiveLines
+pub mod LogicalLines
 pub mod Words
 pub mod Tokens
 pub mod Numbers
@@ -13,8 +12,8 @@ pub mod SignsOver
 pub mod Operands
 pub mod Conditions
 pub mod Condition
-pub mod Chains
 pub mod Directives
+pub mod PieceTexts
 -- what functions promise each other
 pub mod Cursors
 pub mod LineSteps
@@ -23,5 +22,5 @@ pub mod TokenSteps
 pub mod NumberSteps
 pub mod OverSteps
 pub mod ConditionSteps
-pub mod ChainSteps
-pub mod DirectiveSteps
+pub mod SpanSteps
+pub mod Rows

@@ -2,7 +2,7 @@
 -- This project's own; no contract of a public call rests on it.
 use Rattle.std.specs.Prelude.{ℕ, suc, Bool, false, not, [], ◌∷◌}
 use Rattle.ut_text.specs.Bytes.{Bytes}
-use Rattle.cpp_read.specs.DirectiveLines.{is_white}
+use Rattle.cpp_read.specs.LogicalLines.{is_white}
 use Rattle.cpp_read.specs.Tokens.{more_of}
 
 -- whether a text begins with a token

@@ -3,11 +3,12 @@
 use Rattle.std.specs.Prelude.{ℕ, suc, zero, Bool, false, not, ◌==◌, ◌||◌, ◌&&◌, take, map, codes, List, [], ◌∷◌, if◌then◌else◌}
 use Rattle.std.specs.List.{prefix_len}
 use Rattle.ut_text.specs.Bytes.{Bytes}
-use Rattle.cpp_read.specs.Characters.{quote, apostrophe, dot, equals, backslash, is_any_of}
+use Rattle.cpp_directives.specs.Quotes.{is_quote, quoted_len}
+use Rattle.cpp_read.specs.Characters.{dot, equals, is_any_of}
 use Rattle.ut_text.specs.Escapes.{escaped}
 use Rattle.cpp_read.specs.declared.token.Token.{Token}
 use Rattle.cpp_read.specs.declared.token.Token.TheVariants.{Ident, Number, Quoted, Sign}
-use Rattle.cpp_read.specs.DirectiveLines.{is_white}
+use Rattle.cpp_read.specs.LogicalLines.{is_white}
 use Rattle.ut_text.specs.ByteClasses.{begins_names, is_digit, is_name_byte}
 
 -- whether a text begins with a digit
@@ -27,15 +28,6 @@ is_number_byte signed b = is_name_byte b || b == dot || (signed && is_any_of (co
 abbrev pub number_len : Bool → Bytes → ℕ
 number_len signed [] = 0
 number_len signed (b ∷ s) = if is_number_byte signed b then suc (number_len (is_exponent b) s) else 0
-
--- how many bytes go on with quoted text: up to its mark, or to the line's end; after a backslash any byte
-abbrev pub quoted_len : ℕ → Bool → Bytes → ℕ
-quoted_len mark escape [] = 0
-quoted_len mark escape (b ∷ s) = if not escape && b == mark then 1 else suc (quoted_len mark (not escape && b == backslash) s)
-
--- `"` or `'`
-abbrev pub is_quote : ℕ → Bool
-is_quote b = b == quote || b == apostrophe
 
 -- `|`, `&`, `=`, `<` or `>`
 abbrev pub is_doubled : ℕ → Bool

@@ -8,11 +8,12 @@ ghost use Rattle.cpp_read.specs.Stops as stops;
 
 use std::marker::Model;
 
-/// A byte and the number of its physical line.
+/// A byte, the number of its physical line, and the place directly after it, where places count from 0.
 #[derive(Clone, Copy)]
 pub struct PlacedByte {
     pub byte: u8,
     pub line: u32,
+    pub end: u32,
 }
 
 /// A place in a text that begins no splice. Its value is the bytes that are still to be read.
@@ -32,7 +33,7 @@ impl<'a> Model for Cursor<'a> {
 
     ghost Value = { List PlacedByte };
 
-    ghost view = { λ c. spliced_bytes c.line (drop c.at c.bytes.now) };
+    ghost view = { λ c. spliced_bytes c.at c.line (drop c.at c.bytes.now) };
 
     ghost invariant = { λ c. Stands c.bytes.now c.at c.line × (begins_splice (drop c.at c.bytes.now) ≡ false) };
 }
@@ -41,7 +42,7 @@ impl<'a> Cursor<'a> {
     /// The cursor before the first byte, on line 1.
     pub fn new(bytes: &'a [u8]) -> Cursor<'a>
         requires { length bytes.now ≤ most_bytes }
-        ensures { result ≡ spliced_bytes 1 bytes.now }
+        ensures { result ≡ spliced_bytes 0 1 bytes.now }
     {
         let (at, line) = past_splices(bytes, 0, 1);
         Cursor { bytes, at, line }
@@ -67,6 +68,7 @@ impl<'a> Cursor<'a> {
             let placed = PlacedByte {
                 byte,
                 line: self.line,
+                end: self.at as u32 + 1,
             };
             let (at, line) = past_splices(self.bytes, self.at + 1, next_line(self.line, byte));
             self.at = at;
@@ -104,7 +106,7 @@ fn is_stop(byte: u8) -> bool
 /// The first place from `at` on where such a byte stands, or the end.
 fn next_stop(bytes: &[u8], mut at: usize) -> usize
     requires { at ≤ length bytes.now }
-    ensures skips { (line : ℕ) → Skips (spliced_bytes line (drop at bytes.now)) (spliced_bytes line (drop result bytes.now)) }
+    ensures skips { (line : ℕ) → Skips (spliced_bytes at line (drop at bytes.now)) (spliced_bytes result line (drop result bytes.now)) }
     ensures from { at ≤ result }
     ensures within { result ≤ length bytes.now }
 {
@@ -175,7 +177,7 @@ fn past_one(bytes: &[u8], at: usize, line: u32) -> Option<(usize, u32)>
 /// The place and line after all splices that stand there.
 fn past_splices(bytes: &[u8], mut at: usize, mut line: u32) -> (usize, u32)
     requires { Stands bytes.now at line }
-    ensures same { spliced_bytes result.1 (drop result.0 bytes.now) ≡ spliced_bytes line (drop at bytes.now) }
+    ensures same { spliced_bytes result.0 result.1 (drop result.0 bytes.now) ≡ spliced_bytes at line (drop at bytes.now) }
     ensures stands { Stands bytes.now result.0 result.1 }
     ensures clear { spec.begins_splice (drop result.0 bytes.now) ≡ false }
 {

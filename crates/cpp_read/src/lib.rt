@@ -15,15 +15,16 @@
 //! just the first bad line.
 #![tactic(auto)]
 
-mod chains;
 mod cursor;
 mod depth;
 mod modes;
+mod nest;
 mod number;
 mod operand;
 mod reader;
 mod signs_over;
 mod source;
+mod spans;
 mod statement;
 mod token;
 mod tokens;
@@ -31,6 +32,8 @@ mod uncommented;
 mod words;
 
 pub use cpp_directives::{Cond, CppBad, Directive, Gives, What};
+pub use operand::piece_names_are_tokens;
 pub use reader::{conditions_follow_rules, read_condition};
-pub use source::directives;
+pub use source::{directives, line_spans};
+pub use spans::LineOf;
 pub use token::Token;

@@ -3,6 +3,7 @@ ghost use Rattle.std.specs.List.{prefix_len};
 ghost use Rattle.cpp_directives.specs.declared.condition.Cond.TheVariants as conds;
 ghost use Rattle.cpp_read.specs.Signs as signs;
 ghost use Rattle.cpp_read.specs.Operands as spec;
+ghost use Rattle.cpp_read.specs.PieceTexts.{NamesAreTokens};
 
 use crate::depth::{is_close, is_group, is_not, is_open};
 use crate::number::{Whole, read_whole};
@@ -34,6 +35,12 @@ pub fn piece(alloc: Global, tokens: &[Token]) -> Result<Cond, AllocError>
 {
     Ok(Cond::Piece(piece_text(alloc, tokens)?))
 }
+
+/// The names that `piece_names` tells of the text of an opaque piece are the name tokens among those that it was made
+/// of.
+pub fn piece_names_are_tokens()
+    ensures { NamesAreTokens }
+{}
 
 /// Whether the tokens are one token that is an operand, `defined X`, a group, or a name and a group.
 fn is_operand(tokens: &[Token]) -> bool
@@ -73,7 +80,7 @@ fn is_call(tokens: &[Token]) -> bool
 }
 
 /// How many `!` stand in a row at the front.
-fn row_len(tokens: &[Token]) -> usize
+pub fn row_len(tokens: &[Token]) -> usize
     ensures value { result ≡ prefix_len signs.is_not tokens.now }
     ensures within { result ≤ length tokens.now }
 {

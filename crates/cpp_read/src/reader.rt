@@ -1,15 +1,19 @@
 ghost use Rattle.std.specs.Prelude.{◌≡◌, ℕ, ◌<◌, length, drop, suc, true, false, IfOk, not};
-ghost use Rattle.std.specs.List.{list_all};
+ghost use Rattle.std.specs.List.{list_all, prefix_len};
 ghost use Rattle.cpp_read.specs.Depth as depths;
 ghost use Rattle.cpp_read.specs.Depth.{parts, before_at};
 ghost use Rattle.cpp_read.specs.Conditions as spec;
-ghost use Rattle.cpp_read.specs.Conditions.{Reader, Reads, single, negated, each};
+ghost use Rattle.cpp_read.specs.Conditions.{Reader, Reads, single, each};
+ghost use Rattle.cpp_read.specs.Operands.{is_negation};
+ghost use Rattle.cpp_read.specs.Rows.{nots};
+ghost use Rattle.cpp_read.specs.Signs.{is_not};
 ghost use Rattle.cpp_read.specs.Condition.{ruled_condition, condition};
-ghost use Rattle.cpp_read.specs.Refusals.{Answers, AnswersList};
+ghost use Rattle.cpp_directives.specs.Refusals.{Answers, AnswersList};
 
 use crate::depth::{Joint, before, is_balanced, is_group};
+use crate::nest::{core, rest_of};
 use crate::number::{Whole, read_whole};
-use crate::operand::{is_negation, leaf, piece};
+use crate::operand::{is_negation, leaf, piece, row_len};
 use crate::signs_over::signs_fit;
 use crate::token::Token;
 use cpp_directives::{Cond, CppBad};
@@ -85,15 +89,6 @@ fn after(tokens: &[Token], at: usize) -> &[Token]
     &tokens[at + 1..]
 }
 
-/// The tokens between the parentheses of a group.
-fn inside(tokens: &[Token]) -> &[Token]
-    requires { depths.is_group tokens.now ≡ true }
-    ensures value { result.now ≡ spec.inside tokens.now }
-    ensures len { length result.now < length tokens.now }
-{
-    &tokens[1..tokens.len() - 1]
-}
-
 /// The condition of a list without operators between parts.
 #[cycle(read)]
 fn read_single(alloc: Global, tokens: &[Token], line: u32) -> Result<Cond, CppBad>
@@ -101,21 +96,44 @@ fn read_single(alloc: Global, tokens: &[Token], line: u32) -> Result<Cond, CppBa
     ensures { (f : Reader) → Reads line f → Answers result (single f tokens.now) }
 {
     if is_negation(tokens) {
-        return read_negated(alloc, after(tokens, 0), line);
+        return read_row(alloc, tokens, line);
     }
     if is_group(tokens) {
-        return read(alloc, inside(tokens), line);
+        return read(alloc, core(tokens), line);
     }
     Ok(leaf(alloc, tokens)?)
 }
 
-/// The negation of what the tokens say.
+/// The condition of a row of `!` and an operand, which is read once however long the row is.
 #[cycle(read)]
-fn read_negated(alloc: Global, tokens: &[Token], line: u32) -> Result<Cond, CppBad>
-    ensures { (f : Reader) → Reads line f → Answers result (negated (f tokens.now)) }
+fn read_row(alloc: Global, tokens: &[Token], line: u32) -> Result<Cond, CppBad>
+    requires { is_negation tokens.now ≡ true }
+    ensures { (f : Reader) → Reads line f → Answers result (single f tokens.now) }
 {
-    let inner = read(alloc, tokens, line)?;
-    Ok(Cond::Neg(Boxed::new(alloc, inner)?))
+    let count = row_len(tokens);
+    let operand = read(alloc, after_row(tokens, count), line)?;
+    Ok(negated(alloc, operand, count)?)
+}
+
+/// The tokens after a row of `!`.
+fn after_row(tokens: &[Token], count: usize) -> &[Token]
+    requires row { is_negation tokens.now ≡ true }
+    requires count { count ≡ prefix_len is_not tokens.now }
+    ensures value { result.now ≡ drop (prefix_len is_not tokens.now) tokens.now }
+    ensures len { length result.now < length tokens.now }
+{
+    rest_of(tokens, count)
+}
+
+/// A condition, negated so many times.
+fn negated(alloc: Global, cond: Cond, count: usize) -> Result<Cond, AllocError>
+    ensures { IfOk result (λ c. c ≡ nots count cond) }
+{
+    let mut whole = cond;
+    for time in 0..count {
+        whole = Cond::Neg(Boxed::new(alloc, whole)?);
+    }
+    Ok(whole)
 }
 
 /// A whole number that needs more than 128 bits.

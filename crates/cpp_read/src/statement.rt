@@ -2,8 +2,8 @@ ghost use Rattle.std.specs.Prelude.{◌≡◌};
 ghost use Rattle.cpp_read.specs.Directives as spec;
 ghost use Rattle.cpp_read.specs.Tokens as token_specs;
 ghost use Rattle.cpp_read.specs.Condition.{condition};
-ghost use Rattle.cpp_read.specs.DirectiveSteps.{Says};
-ghost use Rattle.cpp_read.specs.Refusals.{Answers};
+ghost use Rattle.cpp_read.specs.SpanSteps.{Says};
+ghost use Rattle.cpp_directives.specs.Refusals.{Answers};
 
 use crate::number::{Whole, read_whole};
 use crate::reader::read_condition;
@@ -78,7 +78,7 @@ fn condition_of(alloc: Global, text: &[u8], line: u32) -> Result<Cond, CppBad>
     read_condition(alloc, &tokens, line)
 }
 
-/// `#ifndef` of a name.
+/// That a name is not defined.
 fn undefined(alloc: Global, text: &[u8], line: u32) -> Result<Cond, CppBad>
     ensures { Answers result (spec.undefined text.now line) }
 {
@@ -119,6 +119,14 @@ pub fn what_of(alloc: Global, word: Word, text: &[u8], line: u32) -> Result<Opti
             let cond = undefined(alloc, after_white(text), line)?;
             Ok(Some(What::If(cond)))
         }
+        Word::Elifdef => {
+            let name = named(alloc, after_white(text), line)?;
+            Ok(Some(What::Elif(Cond::Defined(name))))
+        }
+        Word::Elifndef => {
+            let cond = undefined(alloc, after_white(text), line)?;
+            Ok(Some(What::Elif(cond)))
+        }
         Word::Else => Ok(Some(What::Else)),
         Word::Endif => Ok(Some(What::Endif)),
         Word::Define => {
@@ -129,6 +137,6 @@ pub fn what_of(alloc: Global, word: Word, text: &[u8], line: u32) -> Result<Opti
             let name = named(alloc, after_white(text), line)?;
             Ok(Some(What::Undef { name }))
         }
-        Word::Elifdef | Word::Other => Ok(None),
+        Word::Other => Ok(None),
     }
 }

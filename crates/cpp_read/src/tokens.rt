@@ -1,11 +1,11 @@
-ghost use Rattle.std.specs.Prelude.{◌≡◌, ◌==◌, ◌&&◌, not, ◌<◌, ◌≤◌, ◌∷◌, [], true, false, IfOk, IfSome, MatchOption, length};
+ghost use Rattle.std.specs.Prelude.{◌≡◌, ◌<◌, ◌≤◌, ◌∷◌, [], true, false, IfOk, IfSome, MatchOption, length};
 ghost use Rattle.ut_text.specs.Escapes.{escaped};
-ghost use Rattle.cpp_read.specs.Characters.{backslash};
 ghost use Rattle.cpp_read.specs.Tokens as spec;
 ghost use Rattle.cpp_read.specs.TokenSteps as steps;
 
 use crate::token::Token;
 use crate::words::{after_white, is_white};
+use cpp_directives::{is_quote, quoted_len};
 use std::alloc::{AllocError, Global};
 use ut_text::{Text, begins_names, is_digit, is_name_byte, name_len};
 
@@ -55,44 +55,6 @@ fn number_len(text: &[u8]) -> usize
         count += 1;
     }
     count
-}
-
-/// Whether a byte ends quoted text.
-fn closes(mark: u8, escape: bool, byte: u8) -> bool
-    ensures { result ≡ (not escape && byte == mark) }
-{
-    !escape && byte == mark
-}
-
-/// Whether the next byte is taken as it is.
-fn escapes(escape: bool, byte: u8) -> bool
-    ensures { result ≡ (not escape && byte == backslash) }
-{
-    !escape && byte == b'\\'
-}
-
-/// How many bytes go on with quoted text, its mark included.
-fn quoted_len(mark: u8, text: &[u8]) -> usize
-    ensures value { result ≡ spec.quoted_len mark false text.now }
-    ensures within { result ≤ length text.now }
-{
-    let mut escape = false;
-    let mut count = 0;
-    for byte in text {
-        count += 1;
-        if closes(mark, escape, *byte) {
-            return count;
-        }
-        escape = escapes(escape, *byte);
-    }
-    count
-}
-
-/// `"` or `'`.
-fn is_quote(byte: u8) -> bool
-    ensures { result ≡ spec.is_quote byte }
-{
-    byte == b'"' || byte == b'\''
 }
 
 /// A byte that makes a sign with another of itself.

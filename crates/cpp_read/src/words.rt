@@ -2,8 +2,9 @@ ghost use Rattle.std.specs.Prelude.{◌≡◌, ◌≤◌, true, length};
 ghost use Rattle.std.specs.List.{list_all, prefix_len};
 ghost use Rattle.ut_text.specs.ByteClasses as classes;
 ghost use Rattle.cpp_read.specs.Words as spec;
-ghost use Rattle.cpp_read.specs.DirectiveLines as lines;
+ghost use Rattle.cpp_read.specs.LogicalLines as lines;
 
+use cpp_directives::Part;
 use ut_text::{begins_names, name_len};
 
 /// The word that names a directive.
@@ -13,8 +14,8 @@ pub enum Word {
     Elif,
     Ifdef,
     Ifndef,
-    /// `#elifdef` or `#elifndef`.
     Elifdef,
+    Elifndef,
     Else,
     Endif,
     Define,
@@ -46,7 +47,7 @@ fn chain_word(word: &[u8]) -> Word
     } else if word == b"elifdef".as_slice() {
         Word::Elifdef
     } else if word == b"elifndef".as_slice() {
-        Word::Elifdef
+        Word::Elifndef
     } else if word == b"else".as_slice() {
         Word::Else
     } else if word == b"endif".as_slice() {
@@ -69,6 +70,19 @@ fn macro_word(word: &[u8]) -> Word
     }
 }
 
+/// What a directive with this word does to chains of conditionals.
+pub fn part_of(word: Word) -> Part
+    ensures { result ≡ spec.part_of word }
+{
+    match word {
+        Word::If | Word::Ifdef | Word::Ifndef => Part::If,
+        Word::Elif | Word::Elifdef | Word::Elifndef => Part::Elif,
+        Word::Else => Part::Else,
+        Word::Endif => Part::Endif,
+        Word::Define | Word::Undef | Word::Other => Part::Other,
+    }
+}
+
 /// White space in a line.
 pub fn is_white(byte: u8) -> bool
     ensures { result ≡ lines.is_white byte }
@@ -77,7 +91,7 @@ pub fn is_white(byte: u8) -> bool
 }
 
 /// How many bytes of white space stand at the front.
-fn white_len(text: &[u8]) -> usize
+pub fn white_len(text: &[u8]) -> usize
     ensures value { result ≡ prefix_len lines.is_white text.now }
     ensures within { result ≤ length text.now }
 {

@@ -1,6 +1,6 @@
 //! What a text is read as, in one line.
 
-use cpp_read::{Cond, CppBad, Directive, Gives, What, directives};
+use cpp_read::{Cond, CppBad, Directive, Gives, What, directives, line_spans};
 use std::alloc::{AllocError, Global};
 use std::test::Fail;
 
@@ -64,7 +64,6 @@ fn write_what(out: &mut String, what: &What) -> Result<(), AllocError> {
 
 fn kind_of(bad: CppBad) -> (&'static str, u32) {
     match bad {
-        CppBad::NotYet { line } => ("notyet", line),
         CppBad::Unbalanced { line } => ("unbalanced", line),
         CppBad::ElseTwice { line } => ("else", line),
         CppBad::Depth { line } => ("depth", line),
@@ -94,6 +93,31 @@ pub fn outcome(alloc: Global, text: &[u8]) -> Result<String, Fail> {
     }
     match directives(alloc, text) {
         Ok(list) => Ok(write_all(alloc, &list)?),
+        Err(bad) => {
+            let (kind, line) = kind_of(bad);
+            Ok(format!(in alloc; "{kind} {line}")?)
+        }
+    }
+}
+
+/// The places of the conditional directives of a text, each as `LINE START-END WORD-WORDEND;`, or the refusal's kind
+/// and line.
+pub fn spans(alloc: Global, text: &[u8]) -> Result<String, Fail> {
+    if text.len() > 16_777_216 {
+        return Err(Fail::from("a text that is too long"));
+    }
+    match line_spans(alloc, text) {
+        Ok(list) => {
+            let mut out = String::new(alloc);
+            for of in list.as_slice() {
+                let line = format!(in alloc;
+                    "{} {}-{} {}-{};",
+                    of.line, of.start, of.end, of.word, of.word_end
+                )?;
+                out.push_str(&line)?;
+            }
+            Ok(out)
+        }
         Err(bad) => {
             let (kind, line) = kind_of(bad);
             Ok(format!(in alloc; "{kind} {line}")?)

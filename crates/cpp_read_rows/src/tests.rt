@@ -1,6 +1,6 @@
-use crate::outcomes::{condition_of, outcome, repeated};
+use crate::outcomes::{condition_of, outcome, repeated, spans};
 use std::test::Fail;
-use test_texts::check_lines;
+use test_rows::check_lines;
 
 /// C texts, and what they are read as.
 const LINES: &str = r#" =>
@@ -29,8 +29,12 @@ a #if 1\n =>
 #elif => unbalanced 1
 #if 1\n#else\n#else\n => else 3
 #if 1\n#else\n#elif\n => else 3
-#if 1\n#elifdef A\n => notyet 2
-#elifndef => notyet 1
+#if 1\n#elifdef A b\n#elifndef B\n#endif => 1:if 1;2:elif D(A);3:elif !D(B);4:endif;
+#elifdef A => unbalanced 1
+#elifndef => unbalanced 1
+#if 1\n#else\n#elifdef A => else 3
+#if 1\n#elifdef 9 => name 2
+#if 1\n#elifndef => name 2
 #if 1\n#elif\n => condition 2
 #if 1\n#if 0\n#endif\n => unclosed 1
 #if 1\n#if 0\n => unclosed 2
@@ -50,6 +54,27 @@ fn lines_and_comments(rt: HostRuntime) -> Result<(), Fail> {
     )
 }
 
+/// C texts, and the places of their conditional directives.
+const SPANS: &str = r#" =>
+#if 1\n#endif\n => 1 0-6 1-3;2 6-13 7-12;
+/* a\n b */ #ifdef A\n#endif => 2 0-20 12-17;3 20-26 21-26;
+#if 1\n#el\\\nif 1\n#endif => 1 0-6 1-3;2 6-16 7-13;4 16-22 17-22;
+#define A 1\n#if A\n#endif => 2 12-18 13-15;3 18-24 19-24;
+#if 1\r\n#endif\r\n => 1 0-7 1-3;2 7-15 8-13;
+#if 1 // a\\\nb\n#endif\n => 1 0-14 1-3;3 14-21 15-20;
+#if 1\n#endif /* x\n y */ z\n#if 0\n#endif => 1 0-6 1-3;2 6-26 7-12;4 26-32 27-29;5 32-38 33-38;
+#if 1 => unclosed 1
+#else => unbalanced 1"#;
+
+#[test]
+fn spans_of_lines(rt: HostRuntime) -> Result<(), Fail> {
+    check_lines(
+        rt.alloc(),
+        SPANS,
+        |alloc, text| spans(alloc, text.as_bytes()),
+    )
+}
+
 /// Conditions, and what they are read as.
 const CONDITIONS: &str = r#" => condition 1
 defined A => D(A)
@@ -60,6 +85,12 @@ defined => defined
 A && B || C && D => |(&(A,B,),&(C,D,),)
 (A || B) && C => &(|(A,B,),C,)
 ((A)) => A
+(((A) && B)) => &(A,B,)
+((A) || (B)) => |(A,B,)
+((((A)) + (B))) => [( ( A ) ) + ( B )]
+(()) => condition 1
+!!!((A)) => !!!A
+!!!A == 1 => [! ! ! A == 1]
 A > 1 => [A > 1]
 A==1&&B => &([A == 1],B,)
 ! A == 1 => [! A == 1]

@@ -11,3 +11,10 @@ mod ValidLaws
 mod FineLaws
 mod HeldFine
 mod ClosedLaws
+mod StandLaws
+mod WrittenLaws
+mod DepthLaws
+mod HeldDepth
+mod OuterLaws
+mod MadeOf
+mod FoldedLaws

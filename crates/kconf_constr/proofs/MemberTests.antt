@@ -3,8 +3,9 @@ use Rattle.std.proofs.Common.{◌≡◌, ℕ, suc, ◌==◌, Bool, true, false, 
 use Rattle.std.proofs.lemmas.Bool.Decides.{nat_tests}
 use Rattle.std.specs.List.{list_any, list_all}
 use Rattle.ut_logic.specs.Truth.{any_true}
+use Rattle.kconf_tree.specs.declared.shape.Counts.TheVariants as counts
 use Rattle.kconf_tree.specs.Valid.{allows_mode}
-use Rattle.kconf_tree.proofs.Small.{and_left, and_right}
+use Rattle.kconf_tree.proofs.Small.{and_left, and_right, both_true}
 use Rattle.kconf_constr.proofs.Tables.{on_both, at_both, same_bool, same_bool_is, implies, implies_is}
 
 -- exactly one passes
@@ -18,10 +19,6 @@ module _ (p w : ℕ → Bool) where
   abbrev pub each_can : List ℕ → Bool
   each_can js = list_all (λ j. not (p j) || w j) js
 
-  abbrev pub per_test : Bool → List ℕ → Bool
-  per_test on [] = true
-  per_test on (j ∷ js) = any_true (not (p j) ∷ on ∷ []) && (any_true (not (p j) ∷ w j ∷ []) && per_test on js)
-
   abbrev pub apart_test : ℕ → List ℕ → Bool
   apart_test j [] = true
   apart_test j (k ∷ ks) = any_true (not (p j) ∷ not (p k) ∷ []) && apart_test j ks
@@ -33,18 +30,6 @@ module _ (p w : ℕ → Bool) where
   abbrev pub some_test : Bool → List ℕ → List ℕ → Bool
   some_test on all [] = true
   some_test on all (j ∷ js) = any_true (not on ∷ not (w j) ∷ map p all) && some_test on all js
-
-  per_step : (y on x b c : Bool) → (any_true (not y ∷ on ∷ []) && (any_true (not y ∷ x ∷ []) && ((on || not b) && c))) ≡ ((on || not (y || b)) && ((not y || x) && c))
-  per_step true true true b c = refl
-  per_step true true false b c = refl
-  per_step true false x b c = refl
-  per_step false true x b c = refl
-  per_step false false x b c = refl
-
-  pub per_is : (on : Bool) (js : List ℕ) → per_test on js ≡ ((on || not (list_any p js)) && each_can js)
-  per_is true [] = refl
-  per_is false [] = refl
-  per_is on (j ∷ js) = rw (per_is on js) (per_step (p j) on (w j) (list_any p js) (each_can js))
 
   apart_step : (y x b : Bool) → (any_true (not y ∷ not x ∷ []) && (not y || not b)) ≡ (not y || not (x || b))
   apart_step true true b = refl
@@ -110,14 +95,6 @@ module _ (p w : ℕ → Bool) where
   can_none [] h g = refl
   can_none (j ∷ js) h g = can_step (p j) (w j) (list_any w js) (each_can js) (list_any p js) h g (can_none js)
 
-  none_each : (js : List ℕ) → list_any p js ≡ false → each_can js ≡ true
-  none_each [] h = refl
-  none_each (j ∷ js) h = by (p j) (w j) (list_any p js) (each_can js) h (none_each js)
-    where
-      by : (y x b e : Bool) → (y || b) ≡ false → (b ≡ false → e ≡ true) → ((not y || x) && e) ≡ true
-      by true x b e g k = absurd (cc)
-      by false x b e g k = k g
-
   -- ---- counted
 
   never : (n : ℕ) → (suc n == 0) ≡ false
@@ -142,64 +119,135 @@ module _ (p w : ℕ → Bool) where
       by true h = none_is js ∙ sym (less (length (filter p js)))
       by false h = h
 
--- ---- the whole, by trying all truths
+-- ---- one member, by trying all truths
 
-abbrev pub mode_test : Bool → Bool → Bool → Bool
-mode_test optional n on = any_true (not on ∷ not n ∷ []) && cond optional true (any_true (not (not n) ∷ on ∷ []) && true)
+abbrev pub y_test : (y a w : Bool) → Bool
+y_test y a w = any_true (not y ∷ a ∷ []) && any_true (not y ∷ w ∷ [])
 
--- one is known by some and no two
-abbrev whole : (optional n on some can each two : Bool) → Bool
-whole optional n on some can each two = implies (implies (not some) two) (implies (implies (not some) each) (implies (implies (not can && each) (not some))
-    (same_bool (mode_test optional n on && ((on || not some) && each) && two && (not on || (not can || some)))
-    (cond on (not n) (cond n true optional) && (each && cond (on && can) (two && some) (not some))))))
+abbrev pub m_test : (m b x : Bool) → Bool
+m_test m b x = any_true (not m ∷ b ∷ []) && any_true (not m ∷ x ∷ [])
 
-whole_table : on_both (λ optional. on_both (λ n. on_both (λ on. on_both (λ some. on_both (λ can. on_both (λ each. on_both (λ two. whole optional n on some can each two))))))) ≡ true
-whole_table = refl
+-- what the rules ask of it, in mode y, in mode m or in neither
+abbrev pub kept_test : (y m a b w x : Bool) → Bool
+kept_test y m a b w x = not (y && m) && cond y (a && w) (cond m ((not a && b) && x) true)
 
-by_whole : (optional n on some can each two : Bool) → whole optional n on some can each two ≡ true
-by_whole optional n on some can each two = at_both (λ two. whole optional n on some can each two)
-    (at_both (λ each. on_both (λ two. whole optional n on some can each two))
-    (at_both (λ can. on_both (λ each. on_both (λ two. whole optional n on some can each two)))
-    (at_both (λ some. on_both (λ can. on_both (λ each. on_both (λ two. whole optional n on some can each two))))
-    (at_both (λ on. on_both (λ some. on_both (λ can. on_both (λ each. on_both (λ two. whole optional n on some can each two)))))
-    (at_both (λ n. on_both (λ on. on_both (λ some. on_both (λ can. on_both (λ each. on_both (λ two. whole optional n on some can each two))))))
-    (at_both (λ optional. on_both (λ n. on_both (λ on. on_both (λ some. on_both (λ can. on_both (λ each. on_both (λ two. whole optional n on some can each two))))))) whole_table optional) n) on) some) can) each) two
+abbrev one_member : (a b y m w x : Bool) → Bool
+one_member a b y m w x = implies (not (a && b)) (same_bool (y_test y a w && m_test m b x) (kept_test y m a b w x))
+
+one_table : on_both (λ a. on_both (λ b. on_both (λ y. on_both (λ m. on_both (λ w. on_both (λ x. one_member a b y m w x)))))) ≡ true
+one_table = refl
+
+pub by_one : (a b y m w x : Bool) → not (a && b) ≡ true → (y_test y a w && m_test m b x) ≡ kept_test y m a b w x
+by_one a b y m w x h = same_bool_is _ _ (implies_is _ _ (at_both (λ x. one_member a b y m w x)
+    (at_both (λ w. on_both (λ x. one_member a b y m w x))
+    (at_both (λ m. on_both (λ w. on_both (λ x. one_member a b y m w x)))
+    (at_both (λ y. on_both (λ m. on_both (λ w. on_both (λ x. one_member a b y m w x))))
+    (at_both (λ b. on_both (λ y. on_both (λ m. on_both (λ w. on_both (λ x. one_member a b y m w x)))))
+    (at_both (λ a. on_both (λ b. on_both (λ y. on_both (λ m. on_both (λ w. on_both (λ x. one_member a b y m w x)))))) one_table a) b) y) m) w) x) h)
+
+-- ---- the mode, by trying all truths
+
+abbrev pub tristate_mode_test : (optional n y on a b : Bool) → Bool
+tristate_mode_test optional n y on a b = any_true (not a ∷ not b ∷ []) && (any_true (not b ∷ on ∷ []) && (any_true (not a ∷ not n ∷ []) && (any_true (not a ∷ y ∷ not on ∷ []) && (any_true (not b ∷ not n ∷ []) && cond optional true (any_true (not (not n) ∷ a ∷ b ∷ []) && true)))))
+
+-- a visibility that isn't both n and y
+abbrev mode_case : (optional n y on a b : Bool) → Bool
+mode_case optional n y on a b = implies (not (n && y)) (same_bool (tristate_mode_test optional n y on a b)
+    (not (a && b) && cond a (cond on y (not n)) (cond b (on && not n) (n || optional))))
+
+mode_table : on_both (λ optional. on_both (λ n. on_both (λ y. on_both (λ on. on_both (λ a. on_both (λ b. mode_case optional n y on a b)))))) ≡ true
+mode_table = refl
+
+by_mode : (optional n y on a b : Bool) → not (n && y) ≡ true → tristate_mode_test optional n y on a b ≡ (not (a && b) && cond a (cond on y (not n)) (cond b (on && not n) (n || optional)))
+by_mode optional n y on a b h = same_bool_is _ _ (implies_is _ _ (at_both (λ b. mode_case optional n y on a b)
+    (at_both (λ a. on_both (λ b. mode_case optional n y on a b))
+    (at_both (λ on. on_both (λ a. on_both (λ b. mode_case optional n y on a b)))
+    (at_both (λ y. on_both (λ on. on_both (λ a. on_both (λ b. mode_case optional n y on a b))))
+    (at_both (λ n. on_both (λ y. on_both (λ on. on_both (λ a. on_both (λ b. mode_case optional n y on a b)))))
+    (at_both (λ optional. on_both (λ n. on_both (λ y. on_both (λ on. on_both (λ a. on_both (λ b. mode_case optional n y on a b)))))) mode_table optional) n) y) on) a) b) h)
+
+never_both : (vis : ℕ) → not ((vis == 0) && (vis == 2)) ≡ true
+never_both vis = grind (arith, nat_tests)
+
+-- the formulas of a tristate choice's mode say that it has one, and that it is allowed
+pub tristate_mode_is : (optional on a b : Bool) (vis : ℕ) → tristate_mode_test optional (vis == 0) (vis == 2) on a b ≡ (not (a && b) && allows_mode counts.Tristate on optional vis (cond a 2 (cond b 1 0)))
+tristate_mode_is optional on a b vis = by_mode optional (vis == 0) (vis == 2) on a b (never_both vis) ∙ meant a b
+  where
+    meant : (a b : Bool) → (not (a && b) && cond a (cond on (vis == 2) (not (vis == 0))) (cond b (on && not (vis == 0)) ((vis == 0) || optional))) ≡ (not (a && b) && allows_mode counts.Tristate on optional vis (cond a 2 (cond b 1 0)))
+    meant true true = refl
+    meant true false = refl
+    meant false true = refl
+    meant false false = refl
+
+abbrev pub bool_mode_test : (optional n a : Bool) → Bool
+bool_mode_test optional n a = any_true (not a ∷ not n ∷ []) && cond optional true (any_true (not (not n) ∷ a ∷ []) && true)
+
+-- likewise those of a bool choice, which can't be m
+pub bool_mode_is : (on optional a : Bool) (vis : ℕ) → bool_mode_test optional (vis == 0) a ≡ allows_mode counts.Bool on optional vis (cond a 2 0)
+bool_mode_is on optional a vis = by optional (vis == 0) a
+  where
+    by : (o n y : Bool) → bool_mode_test o n y ≡ cond (cond y 2 0 == 0) (n || o) (cond (cond y 2 0 == 1) (on && false) ((cond y 2 0 == 2) && not n))
+    by true true true = refl
+    by true true false = refl
+    by true false true = refl
+    by true false false = refl
+    by false true true = refl
+    by false true false = refl
+    by false false true = refl
+    by false false false = refl
+
+-- ---- one is y where one can be
 
 module _ (p w : ℕ → Bool) (ms : List ℕ) where
-  implied : (a b : Bool) → (a ≡ true → b ≡ true) → implies a b ≡ true
-  implied true b h = h refl
-  implied false b h = refl
-
   off : (a : Bool) → not a ≡ true → a ≡ false
   off true h = absurd (cc)
   off false h = refl
 
-  first : implies (not (list_any p ms)) (pairs_test p w ms) ≡ true
-  first = implied _ _ (λ h. pairs_none p w ms (off (list_any p ms) h))
+  -- given that y is in mode y alone, and only where it can be
+  pub one_law : (a : Bool) → each_can p w ms ≡ true → (a ≡ false → list_any p ms ≡ false) → (pairs_test p w ms && some_test p w a ms ms) ≡ cond (a && list_any w ms) (length (filter p ms) == 1) true
+  one_law a each none = rw (some_is p w a ms ms) (by a refl (list_any w ms) refl)
+    where
+      by : (b : Bool) → a ≡ b → (can : Bool) → list_any w ms ≡ can → (pairs_test p w ms && (not b || (not can || list_any p ms))) ≡ cond (b && can) (length (filter p ms) == 1) true
+      by true e true g = pairs_one p w ms ∙ one_is p w ms
+      by true e false g = ap (λ x. x && true) (pairs_none p w ms (can_none p w ms g each))
+      by false e can g = ap (λ x. x && true) (pairs_none p w ms (none e))
 
-  second : implies (not (list_any p ms)) (each_can p w ms) ≡ true
-  second = implied _ _ (λ h. none_each p w ms (off (list_any p ms) h))
+-- ---- lists
 
-  third : implies (not (list_any w ms) && each_can p w ms) (not (list_any p ms)) ≡ true
-  third = implied _ _ (λ h. ap not (can_none p w ms (off (list_any w ms) (and_left (not (list_any w ms)) (each_can p w ms) h)) (and_right (not (list_any w ms)) (each_can p w ms) h)))
+pub both_lists : (p q : ℕ → Bool) (js : List ℕ) → (list_all p js && list_all q js) ≡ list_all (λ j. p j && q j) js
+both_lists p q [] = refl
+both_lists p q (j ∷ js) = step (p j) (q j) (list_all p js) (list_all q js) ∙ ap (λ b. (p j && q j) && b) (both_lists p q js)
+  where
+    step : (a b c d : Bool) → ((a && c) && (b && d)) ≡ ((a && b) && (c && d))
+    step true true c d = refl
+    step true false true d = refl
+    step true false false d = refl
+    step false b c d = refl
 
-  -- how many are y
-  counted : (want : Bool) → cond want (pairs_test p w ms && list_any p ms) (not (list_any p ms)) ≡ (length (filter p ms) == cond want 1 0)
-  counted true = pairs_one p w ms ∙ one_is p w ms
-  counted false = none_is p w ms
+-- where each passes, each of what it follows from passes
+pub all_then : (p q : ℕ → Bool) → ((j : ℕ) → p j ≡ true → q j ≡ true) → (js : List ℕ) → list_all p js ≡ true → list_all q js ≡ true
+all_then p q f [] h = refl
+all_then p q f (j ∷ js) h = both_true (q j) (list_all q js) (f j (and_left (p j) (list_all p js) h)) (all_then p q f js (and_right (p j) (list_all p js) h))
 
-  -- the mode as a value
-  meant : (optional n on : Bool) (vis : ℕ) → (vis == 0) ≡ n → cond on (not n) (cond n true optional) ≡ allows_mode optional vis (cond on 2 0)
-  meant optional n true vis h = ap not (sym h)
-  meant optional n false vis h = ap (λ b. cond b true optional) (sym h)
+pub none_then : (p q : ℕ → Bool) → ((j : ℕ) → p j ≡ true → q j ≡ false) → (js : List ℕ) → list_all p js ≡ true → list_any q js ≡ false
+none_then p q f [] h = refl
+none_then p q f (j ∷ js) h = step (q j) (list_any q js) (f j (and_left (p j) (list_all p js) h)) (none_then p q f js (and_right (p j) (list_all p js) h))
+  where
+    step : (a b : Bool) → a ≡ false → b ≡ false → (a || b) ≡ false
+    step true b x y = x
+    step false b x y = y
 
-  second_mode : (on : Bool) → on ≡ (cond on 2 0 == 2)
-  second_mode true = refl
-  second_mode false = refl
+-- ---- the parts put together
 
-  -- what the formulas say of a choice is what its rules do
-  pub whole_law : (optional : Bool) (vis : ℕ) (on : Bool) →
-      (mode_test optional (vis == 0) on && ((on || not (list_any p ms)) && each_can p w ms) && pairs_test p w ms && (not on || (not (list_any w ms) || list_any p ms)))
-      ≡ (allows_mode optional vis (cond on 2 0) && (each_can p w ms && (length (filter p ms) == cond ((cond on 2 0 == 2) && list_any w ms) 1 0)))
-  whole_law optional vis on = same_bool_is _ _ (implies_is _ _ (implies_is _ _ (implies_is _ _ (by_whole optional (vis == 0) on (list_any p ms) (list_any w ms) (each_can p w ms) (pairs_test p w ms)) first) second) third)
-      ∙ rw (meant optional (vis == 0) on vis refl, counted (on && list_any w ms)) (ap (λ b. allows_mode optional vis (cond on 2 0) && (each_can p w ms && (length (filter p ms) == cond (b && list_any w ms) 1 0))) (second_mode on))
+-- one mode, an allowed one, members that keep to it, and one that is y where one can be
+pub assembled : (one allowed first second values kept pairs some single : Bool) → (one ≡ true → (first && second) ≡ (values && kept))
+    → (one ≡ true → kept ≡ true → (pairs && some) ≡ single) → (((((one && allowed) && first) && second) && pairs) && some) ≡ (one && (values && (allowed && (kept && single))))
+assembled false allowed first second values kept pairs some single f g = refl
+assembled true false first second values kept pairs some single f g = by values
+  where
+    by : (b : Bool) → false ≡ (b && false)
+    by true = refl
+    by false = refl
+assembled true true first second true true pairs some single f g = ap (λ b. (b && pairs) && some) (f refl) ∙ g refl refl
+assembled true true first second true false pairs some single f g = ap (λ b. (b && pairs) && some) (f refl)
+assembled true true first second false kept pairs some single f g = ap (λ b. (b && pairs) && some) (f refl)

@@ -1,25 +1,24 @@
--- A symbol's visibility, reverse dependency and default as formulas.
-use Rattle.std.proofs.Common.{◌≡◌, ℕ, ◌≤◌, ◌==◌, Bool, true, false, not, ◌&&◌, ◌||◌, cond, List, [], ◌∷◌, ◌++◌, map, refl, ap, subst, ◌∙◌, min, arith}
+-- A symbol's visibility, reverse dependency and default, which gives way where it is implied, as formulas.
+use Rattle.std.proofs.Common.{◌≡◌, ℕ, ◌≤◌, ◌==◌, Bool, true, false, not, ◌&&◌, ◌||◌, cond, List, [], ◌∷◌, ◌++◌, map, refl, ap, subst, ◌∙◌, min, max, arith}
 use Rattle.std.proofs.lemmas.Bool.Decides.{nat_tests}
 use Rattle.ut_logic.specs.declared.item.Item.{Item}
 use Rattle.ut_logic.specs.declared.formula.Formula.{Formula}
-use Rattle.ut_logic.specs.Fold.{not_of}
+use Rattle.ut_logic.specs.Fold.{all_of, any_of, not_of}
 use Rattle.ut_logic.specs.Truth.{truth, truths, all_true, any_true}
 use Rattle.ut_logic.proofs.FoldLaws.{truth-all_of, truth-any_of, truth-not_of}
 use Rattle.kconf_entries.specs.declared.expr.Expr.{Expr}
 use Rattle.kconf_entries.specs.declared.entries.DefaultOf.{DefaultOf}
-use Rattle.kconf_tree.specs.Shape.{Selecting}
-use Rattle.kconf_tree.specs.Shape.{symbol_at, counts_as, selectors_of}
+use Rattle.kconf_tree.specs.Shape.{Selecting, symbol_at, counts_as, selectors_of, impliers_of}
 use Rattle.kconf_tree.specs.declared.place.Place.TheVariants.{Condition, Value}
 use Rattle.kconf_tree.specs.Value.{Configuration, value_in, own_value, greatest}
-use Rattle.kconf_tree.specs.Properties.{visibility_of, reverse_of, default_of, first_default, selected_by}
+use Rattle.kconf_tree.specs.Properties.{visibility_of, reverse_of, direct_of, weakened as weakened_to, default_of, first_default, selected_by}
 use Rattle.kconf_tree.proofs.Small.{on_three, at_three}
 use Rattle.kconf_constr.specs.declared.level.Level.{Level}
 use Rattle.kconf_constr.specs.declared.level.Level.TheVariants.{NotN, IsY}
 use Rattle.kconf_constr.specs.Scope.{Scope}
 use Rattle.kconf_constr.specs.Levels.{Levels, levels, at_level, own_levels, each, some}
-use Rattle.kconf_constr.specs.Stands.{configuration_of}
-use Rattle.kconf_constr.specs.PropertyFormulas.{prompts_levels, visibility_levels, reverse_levels, selected_at, default_levels, default_parts}
+use Rattle.kconf_constr.specs.Stands.{read_off}
+use Rattle.kconf_constr.specs.PropertyFormulas.{greatest_levels, visibility_levels, reverse_levels, selecting_levels, selected_at, first_levels, weakened, default_by, default_levels, default_parts}
 use Rattle.kconf_constr.proofs.Tables.{on_both, at_both, same_bool, same_bool_is}
 use Rattle.kconf_constr.proofs.ValueLaws.{Stands, stands_any, stands_own, expr_right}
 
@@ -84,9 +83,50 @@ step_table IsY = refl
 default_step : (h : Level) (b : Bool) (x y z : ℕ) → x ≤ 2 → y ≤ 2 → z ≤ 2 → step_left h b x y z ≡ (b && says h (cond (x == 0) z (min y x)))
 default_step h b x y z i j k = same_bool_is _ _ (by_table (λ b x y z. same_bool (step_left h b x y z) (b && says h (cond (x == 0) z (min y x)))) (step_table h) b x y z i j k)
 
+-- ---- a default that gives way
+
+abbrev weak_not_n : Table
+weak_not_n b x y z = same_bool (any_true (all_true (not (x == 0) ∷ not (y == 0) ∷ []) ∷ all_true (not (not (x == 0)) ∷ not (z == 0) ∷ []) ∷ [])) (not (weakened_to x y z == 0))
+
+abbrev weak_is_y : Table
+weak_is_y b x y z = same_bool (any_true (all_true (not (x == 0) ∷ any_true ((z == 2) ∷ (x == 2) ∷ []) ∷ (y == 2) ∷ []) ∷ all_true (not (not (x == 0)) ∷ (z == 2) ∷ []) ∷ [])) (weakened_to x y z == 2)
+
+not_n_fills : fills weak_not_n ≡ true
+not_n_fills = refl
+
+is_y_fills : fills weak_is_y ≡ true
+is_y_fills = refl
+
+weak_stands : (v : Item → Bool) (a b d : Levels) (x y z : ℕ) → Stands v a x → Stands v b y → Stands v d z → Stands v (weakened a b d) (weakened_to x y z)
+weak_stands v a b d x y z i p f = record {
+  not_n = truth-any_of v (all_of (a.not_n ∷ b.not_n ∷ []) ∷ all_of (not_of a.not_n ∷ d.not_n ∷ []) ∷ []) ∙ rw (
+    truth-all_of v (a.not_n ∷ b.not_n ∷ []),
+    truth-all_of v (not_of a.not_n ∷ d.not_n ∷ []),
+    truth-not_of v a.not_n,
+    i.not_n,
+    p.not_n,
+    f.not_n,
+  ) (same_bool_is _ _ (by_table weak_not_n not_n_fills true x y z i.small p.small f.small));
+  is_y = truth-any_of v (all_of (a.not_n ∷ any_of (d.is_y ∷ a.is_y ∷ []) ∷ b.is_y ∷ []) ∷ all_of (not_of a.not_n ∷ d.is_y ∷ []) ∷ []) ∙ rw (
+    truth-all_of v (a.not_n ∷ any_of (d.is_y ∷ a.is_y ∷ []) ∷ b.is_y ∷ []),
+    truth-any_of v (d.is_y ∷ a.is_y ∷ []),
+    truth-all_of v (not_of a.not_n ∷ d.is_y ∷ []),
+    truth-not_of v a.not_n,
+    i.not_n,
+    i.is_y,
+    p.is_y,
+    f.is_y,
+  ) (same_bool_is _ _ (by_table weak_is_y is_y_fills true x y z i.small p.small f.small));
+  small = by (x == 0);
+}
+  where
+    by : (q : Bool) → cond q z (min y (max z x)) ≤ 2
+    by true = f.small
+    by false = omega (arith, p.small)
+
 module _ (s : Scope) (v : Item → Bool) where
   abbrev c : Configuration
-  c = configuration_of s v
+  c = read_off s v
 
   either : (b : Bool) (m n : ℕ) → m ≤ 2 → n ≤ 2 → cond b m n ≤ 2
   either true m n i j = i
@@ -119,11 +159,11 @@ module _ (s : Scope) (v : Item → Bool) where
     (expr_right s v Condition d.cond).not_n,
   ) (default_step h (all_true (truths v nots)) (value_in s.shape c Condition d.cond) (value_in s.shape c Value d.value) (first_default s.shape c ds) (expr_right s v Condition d.cond).small (expr_right s v Value d.value).small (first_small ds))
 
-  pub default_stands : (k : ℕ) → Stands v (default_levels s k) (default_of s.shape c k)
-  default_stands k = record {
-    not_n = truth-any_of v _ ∙ parts_say NotN [] (symbol_at s.shape k).defaults;
-    is_y = truth-any_of v _ ∙ parts_say IsY [] (symbol_at s.shape k).defaults;
-    small = first_small (symbol_at s.shape k).defaults;
+  first_stands : (ds : List DefaultOf) → Stands v (first_levels s ds) (first_default s.shape c ds)
+  first_stands ds = record {
+    not_n = truth-any_of v _ ∙ parts_say NotN [] ds;
+    is_y = truth-any_of v _ ∙ parts_say IsY [] ds;
+    small = first_small ds;
   }
 
   pub visibility_stands : (k : ℕ) → Stands v (visibility_levels s k) (visibility_of s.shape c k)
@@ -140,8 +180,19 @@ module _ (s : Scope) (v : Item → Bool) where
   fused NotN (x ∷ xs) = ap (λ fs. selected_at s NotN x ∷ fs) (fused NotN xs)
   fused IsY (x ∷ xs) = ap (λ fs. selected_at s IsY x ∷ fs) (fused IsY xs)
 
-  pub reverse_stands : (k : ℕ) → Stands v (reverse_levels s k) (reverse_of s.shape c k)
-  reverse_stands k = rw (fused NotN (selectors_of s.shape k), fused IsY (selectors_of s.shape k)) (stands_some v (λ x. each (own_levels s x.by ∷ levels s Condition x.cond ∷ [])) (selected_by s.shape c) selected_stands (selectors_of s.shape k))
+  selecting_stands : (xs : List Selecting) → Stands v (selecting_levels s xs) (greatest (map (selected_by s.shape c) xs))
+  selecting_stands xs = rw (fused NotN xs, fused IsY xs) (stands_some v (λ x. each (own_levels s x.by ∷ levels s Condition x.cond ∷ [])) (selected_by s.shape c) selected_stands xs)
 
-  pub prompts_stand : (es : List Expr) → Stands v (prompts_levels s es) (greatest (map (value_in s.shape c Condition) es))
-  prompts_stand es = stands_some v (levels s Condition) (value_in s.shape c Condition) (expr_right s v Condition) es
+  pub reverse_stands : (k : ℕ) → Stands v (reverse_levels s k) (reverse_of s.shape c k)
+  reverse_stands k = selecting_stands (selectors_of s.shape k)
+
+  pub greatest_stands : (es : List Expr) → Stands v (greatest_levels s es) (greatest (map (value_in s.shape c Condition) es))
+  greatest_stands es = stands_some v (levels s Condition) (value_in s.shape c Condition) (expr_right s v Condition) es
+
+  default_by_stands : (k : ℕ) (xs : List Selecting) → Stands v (default_by s k xs) (weakened_to (greatest (map (selected_by s.shape c) xs)) (direct_of s.shape c k) (first_default s.shape c (symbol_at s.shape k).defaults))
+  default_by_stands k [] = first_stands (symbol_at s.shape k).defaults
+  default_by_stands k (x ∷ xs) = weak_stands v _ _ _ _ _ _ (selecting_stands (x ∷ xs)) (greatest_stands (symbol_at s.shape k).places) (first_stands (symbol_at s.shape k).defaults)
+
+  -- the default gives way where the symbol is implied
+  pub default_stands : (k : ℕ) → Stands v (default_levels s k) (default_of s.shape c k)
+  default_stands k = default_by_stands k (impliers_of s.shape k)

@@ -14,7 +14,7 @@ use Rattle.kconf_tree.specs.Value.{Configuration, has_modules, stands_for}
 use Rattle.kconf_tree.specs.Right.{is_settled, is_right}
 use Rattle.kconf_constr.specs.Scope.{Scope}
 use Rattle.kconf_constr.specs.Levels.{modules_formula}
-use Rattle.kconf_constr.specs.Stands.{configuration_of, value_as, has_one_as, has_one_value}
+use Rattle.kconf_constr.specs.Stands.{read_off, value_as, has_one_as, has_one_value}
 use Rattle.kconf_constr.specs.SymbolFormulas.{Properties, properties_of, base_holds, holds_as, non_member_holds}
 use Rattle.kconf_constr.proofs.Tables.{same_bool, same_bool_is}
 use Rattle.kconf_constr.proofs.ValueLaws.{Stands, modules_truth}
@@ -113,7 +113,7 @@ tristate_table false false = refl
 
 module _ (s : Scope) (v : Item → Bool) where
   abbrev c : Configuration
-  c = configuration_of s v
+  c = read_off s v
 
   by_kind : (kind : Counts) (on : Bool) (k : ℕ) (l : Properties) (a r d : ℕ) → truth v (modules_formula s.shape.modules) ≡ on → PropertiesStand v l (stands_for kind (value_as kind v k)) a r d
       → all_true (truths v (holds_as kind (modules_formula s.shape.modules) k l)) ≡ (has_one_as kind v k && is_settled kind on a r d (value_as kind v k))

@@ -21,16 +21,15 @@ use Rattle.kconf_entries.specs.declared.expr.Expr.TheViews.{roll-Expr}
 use Rattle.kconf_entries.specs.declared.expr.Expr.TheFolds.{fold-roll-Expr, map-Expr, ind-Expr}
 use Rattle.kconf_tree.specs.declared.shape.Counts.{Counts}
 use Rattle.kconf_tree.specs.declared.shape.Counts.TheVariants as counts
-use Rattle.kconf_tree.specs.Shape.{number_of, outer_at, counts_as}
+use Rattle.kconf_tree.specs.Shape.{Shape, number_of, outer_at, counts_as}
 use Rattle.kconf_tree.specs.declared.place.Place.{Place}
 use Rattle.kconf_tree.specs.declared.place.Place.TheVariants.{Condition, Value}
-use Rattle.kconf_entries.specs.Written.{comparison_text}
-use Rattle.kconf_tree.specs.Value.{Configuration, value_in, value_step, named, side_value, const_value, outer_value, compares_trits, least, greatest, has_modules, stands_for}
+use Rattle.kconf_tree.specs.Value.{Configuration, value_in, value_step, named, side_value, const_value, outer_value, Comparison, OfTrits, OfText, comparison_of, comparison_value, least, greatest, has_modules, stands_for}
 use Rattle.kconf_tree.specs.Value as tree
 use Rattle.kconf_constr.specs.declared.level.Level.TheVariants.{NotN, IsY}
 use Rattle.kconf_constr.specs.Scope.{Scope, number_among}
-use Rattle.kconf_constr.specs.Levels.{Levels, both, levels, levels_step, at_level, value_levels, const_levels, own_levels_as, named_levels, undeclared_formula, outer_formula, modules_formula, side_levels, same, compared, each, some}
-use Rattle.kconf_constr.specs.Stands.{value_as, undeclared_truth, configuration_of}
+use Rattle.kconf_constr.specs.Levels.{Levels, both, levels, levels_step, at_level, value_levels, const_levels, own_levels_as, named_levels, undeclared_formula, outer_formula, modules_formula, side_levels, same, compared, comparison_formula, each, some}
+use Rattle.kconf_constr.specs.Stands.{value_as, undeclared_truth, read_off}
 
 -- the formulas h stand for the value n
 pub record Stands (v : Item → Bool) (h : Levels) (n : ℕ) : Type 0 where
@@ -180,6 +179,13 @@ stands_compared v sign.MoreSame a b m n s t = differs v a b m n s t
 
 -- ---- every expression
 
+-- the modules symbol counts as bool
+pub counts_modules : (t : Shape) (k : ℕ) → t.modules ≡ Some k → counts_as t k ≡ counts.Bool
+counts_modules t k e = rw (e, same_number k) refl
+  where
+    same_number : (k : ℕ) → (k == k) ≡ true
+    same_number k = grind (arith, nat_tests)
+
 -- the same as has_modules, of the number alone
 abbrev has_modules_as : Configuration → Option ℕ → Bool
 has_modules_as c None = false
@@ -187,7 +193,7 @@ has_modules_as c (Some k) = not (c.value k == 0)
 
 module _ (s : Scope) (v : Item → Bool) where
   abbrev c : Configuration
-  c = configuration_of s v
+  c = read_off s v
 
   outer_case : (text : List ℕ) → Stands v (both (outer_formula (outer_at s.shape text))) (outer_value s.shape c text)
   outer_case text = by (outer_at s.shape text) refl
@@ -200,16 +206,9 @@ module _ (s : Scope) (v : Item → Bool) where
   name_case name None = stands_undeclared v (number_among s.undeclared name)
   name_case name (Some k) = stands_own v (counts_as s.shape k) k
 
-  -- the modules symbol counts as bool
   bit_of_modules : (k : ℕ) → s.shape.modules ≡ Some k → not (c.value k == 0) ≡ v (SymY k)
-  bit_of_modules k e = ap (λ kind. not (value_as kind v k == 0)) (counts_modules k e) ∙ by (v (SymY k))
+  bit_of_modules k e = ap (λ kind. not (value_as kind v k == 0)) (counts_modules s.shape k e) ∙ by (v (SymY k))
     where
-      same_number : (k : ℕ) → (k == k) ≡ true
-      same_number k = grind (arith, nat_tests)
-
-      counts_modules : (k : ℕ) → s.shape.modules ≡ Some k → counts_as s.shape k ≡ counts.Bool
-      counts_modules k e = rw (e, same_number k) refl
-
       by : (b : Bool) → not (cond b 2 0 == 0) ≡ b
       by true = refl
       by false = refl
@@ -245,9 +244,9 @@ module _ (s : Scope) (v : Item → Bool) where
   side_case (side.Literal text) = stands_n v
   side_case (side.Quoted text) = stands_n v
 
-  compare_case : (l r : Side) (g : Sign) (b : Bool) → Stands v (both (cond b (compared g (same (side_levels s l) (side_levels s r))) (outer_formula (outer_at s.shape (comparison_text l g r))))) (cond b (tree.compared g (side_value s.shape c l) (side_value s.shape c r)) (outer_value s.shape c (comparison_text l g r)))
-  compare_case l r g true = stands_compared v g (side_levels s l) (side_levels s r) (side_value s.shape c l) (side_value s.shape c r) (side_case l) (side_case r)
-  compare_case l r g false = outer_case (comparison_text l g r)
+  compare_case : (l r : Side) (g : Sign) (o : Comparison) → Stands v (both (comparison_formula s l g r o)) (comparison_value s.shape c l g r o)
+  compare_case l r g OfTrits = stands_compared v g (side_levels s l) (side_levels s r) (side_value s.shape c l) (side_value s.shape c r) (side_case l) (side_case r)
+  compare_case l r g (OfText text) = outer_case text
 
   module _ (p : Place) where
     abbrev Right : Expr → Type 0
@@ -260,7 +259,7 @@ module _ (s : Scope) (v : Item → Bool) where
     step (Expr-F.Const x) = const_case p x
     step (Expr-F.Name name) = name_case name (number_of s.shape name)
     step (Expr-F.Outer text) = outer_case text
-    step (Expr-F.Compare left g right) = compare_case left right g (compares_trits s.shape left g right)
+    step (Expr-F.Compare left g right) = compare_case left right g (comparison_of s.shape left g right)
     step (Expr-F.Neg e) = stands_neg v (levels s p e.0) (value_in s.shape c p e.0) e.1
     step (Expr-F.And es) = stands_all v (levels s p) (value_in s.shape c p) es
     step (Expr-F.Or es) = stands_any v (levels s p) (value_in s.shape c p) es
@@ -273,8 +272,8 @@ module _ (s : Scope) (v : Item → Bool) where
 
 -- ---- of formulas that are those of a condition
 
-pub not_n_of : (s t : Scope) (e : Expr) (f : Formula) → f ≡ (levels s Condition e).not_n → s ≡ t → (v : Item → Bool) → truth v f ≡ not (value_in t.shape (configuration_of t v) Condition e == 0)
+pub not_n_of : (s t : Scope) (e : Expr) (f : Formula) → f ≡ (levels s Condition e).not_n → s ≡ t → (v : Item → Bool) → truth v f ≡ not (value_in t.shape (read_off t v) Condition e == 0)
 not_n_of s t e f h g v = ap (truth v) (h ∙ ap (λ (r : Scope). (levels r Condition e).not_n) g) ∙ (expr_right t v Condition e).not_n
 
-pub is_y_of : (s t : Scope) (e : Expr) (f : Formula) → f ≡ (levels s Condition e).is_y → s ≡ t → (v : Item → Bool) → truth v f ≡ (value_in t.shape (configuration_of t v) Condition e == 2)
+pub is_y_of : (s t : Scope) (e : Expr) (f : Formula) → f ≡ (levels s Condition e).is_y → s ≡ t → (v : Item → Bool) → truth v f ≡ (value_in t.shape (read_off t v) Condition e == 2)
 is_y_of s t e f h g v = ap (truth v) (h ∙ ap (λ (r : Scope). (levels r Condition e).is_y) g) ∙ (expr_right t v Condition e).is_y

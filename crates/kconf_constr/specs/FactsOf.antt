@@ -12,6 +12,7 @@ use Rattle.ut_logic.specs.Truth.{mentioned, together}
 use Rattle.kconf_tree.specs.declared.shape.Counts.{Counts}
 use Rattle.kconf_tree.specs.declared.shape.Counts.TheVariants as counts
 use Rattle.kconf_tree.specs.Shape.{Shape, symbol_at, choice_at, counts_as}
+use Rattle.kconf_tree.specs.Valid.{choice_counts}
 use Rattle.kconf_tree.specs.References.{references_of}
 use Rattle.kconf_constr.specs.Scope.{Scope}
 use Rattle.kconf_constr.specs.SymbolFormulas.{symbol_holds}
@@ -24,6 +25,12 @@ abbrev pub own_items : Counts → ℕ → List Item
 own_items counts.Bool k = item.SymY k ∷ []
 own_items counts.Tristate k = item.SymY k ∷ item.SymM k ∷ []
 own_items counts.Neither k = []
+
+-- the items of a choice that counts as this
+abbrev pub mode_items : Counts → ℕ → List Item
+mode_items counts.Bool i = item.ModeY i ∷ []
+mode_items counts.Tristate i = item.ModeY i ∷ item.ModeM i ∷ []
+mode_items counts.Neither i = item.ModeY i ∷ []
 
 -- an item that no node has as its own, such as that of an undeclared name or of an outer condition
 abbrev pub is_loose : Item → Bool
@@ -67,7 +74,7 @@ choice_fact s i = record {
   holds = choice_holds s i;
   defines = [];
   names = choice_names s.shape i;
-  items = item.ModeY i ∷ loose_items (choice_holds s i);
+  items = mode_items (choice_counts s.shape i) i ++ loose_items (choice_holds s i);
 }
 
 -- all facts

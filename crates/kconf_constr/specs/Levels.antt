@@ -1,6 +1,6 @@
 -- The two formulas of an expression: that its value isn't n, and that it is y.
 -- Rule: Linux kconfig-language, "Menu dependencies"; the formulas are this project's rule.
-use Rattle.std.specs.Prelude.{ℕ, List, [], ◌∷◌, Option, None, Some, map, if◌then◌else◌}
+use Rattle.std.specs.Prelude.{ℕ, List, [], ◌∷◌, Option, None, Some, map}
 use Rattle.ut_text.specs.Bytes.{Bytes}
 use Rattle.ut_logic.specs.declared.trit.Trit.{Trit}
 use Rattle.ut_logic.specs.declared.trit.Trit.TheVariants.{N, M, Y}
@@ -20,8 +20,7 @@ use Rattle.kconf_tree.specs.declared.shape.Counts.TheVariants as counts
 use Rattle.kconf_tree.specs.Shape.{counts_as, number_of, outer_at}
 use Rattle.kconf_tree.specs.declared.place.Place.{Place}
 use Rattle.kconf_tree.specs.declared.place.Place.TheVariants.{Condition, Value}
-use Rattle.kconf_entries.specs.Written.{comparison_text}
-use Rattle.kconf_tree.specs.Value.{compares_trits}
+use Rattle.kconf_tree.specs.Value.{Comparison, OfTrits, OfText, comparison_of}
 use Rattle.kconf_constr.specs.declared.level.Level.{Level}
 use Rattle.kconf_constr.specs.declared.level.Level.TheVariants.{NotN, IsY}
 use Rattle.kconf_constr.specs.Scope.{Scope, number_among}
@@ -124,8 +123,9 @@ compared sign.Same f = f
 compared sign f = not_of f
 
 -- the formula of a comparison of two of the three values, or of an outer condition
-abbrev pub comparison_formula : Scope → Side → Sign → Side → Formula
-comparison_formula s left sign right = if compares_trits s.shape left sign right then compared sign (same (side_levels s left) (side_levels s right)) else outer_formula (outer_at s.shape (comparison_text left sign right))
+abbrev pub comparison_formula : Scope → Side → Sign → Side → Comparison → Formula
+comparison_formula s left sign right OfTrits = compared sign (same (side_levels s left) (side_levels s right))
+comparison_formula s left sign right (OfText text) = outer_formula (outer_at s.shape text)
 
 -- ---- expressions
 
@@ -150,7 +150,7 @@ abbrev pub levels_step : Scope → Place → Expr-F Levels → Levels
 levels_step s p (Expr-F.Const x) = const_levels s p x
 levels_step s p (Expr-F.Name name) = name_levels s name
 levels_step s p (Expr-F.Outer text) = both (outer_formula (outer_at s.shape text))
-levels_step s p (Expr-F.Compare left sign right) = both (comparison_formula s left sign right)
+levels_step s p (Expr-F.Compare left sign right) = both (comparison_formula s left sign right (comparison_of s.shape left sign right))
 levels_step s p (Expr-F.Neg h) = record { not_n = not_of h.is_y; is_y = not_of h.not_n }
 levels_step s p (Expr-F.And hs) = each hs
 levels_step s p (Expr-F.Or hs) = some hs

@@ -8,3 +8,6 @@ pub mod FactsOf
 pub mod Stands
 pub mod Meaning
 pub mod Closed
+pub mod Standing
+pub mod Depth
+pub mod Folded

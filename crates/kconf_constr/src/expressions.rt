@@ -2,6 +2,7 @@
 
 ghost use Rattle.std.specs.Prelude.{◌≡◌, ◌<◌, IfOk, length, map};
 ghost use Rattle.ut_logic.specs.Fold as fold;
+ghost use Rattle.kconf_tree.specs.Value.{comparison_of};
 ghost use Rattle.kconf_constr.specs.Levels as spec;
 
 use crate::level::Level;
@@ -191,7 +192,7 @@ impl<'a> Scope<'a> {
         sign: Sign,
         right: &Side,
     ) -> Result<Formula, AllocError>
-        ensures { IfOk result (λ f. f ≡ spec.comparison_formula self.now left.now sign right.now) }
+        ensures { IfOk result (λ f. f ≡ spec.comparison_formula self.now left.now sign right.now (comparison_of self.now.shape left.now sign right.now)) }
     {
         if self.tree().compares_trits(left, sign, right) {
             let equal = self.same(alloc, left, right)?;

@@ -3,14 +3,16 @@ ghost use Rattle.std.specs.List.{range_with_len};
 ghost use Rattle.ut_logic.specs.declared.node.Node.TheVariants as node;
 ghost use Rattle.kconf_constr.specs.Scope.{IsRising, whole, with_undeclared};
 ghost use Rattle.kconf_constr.specs.FactsOf as spec;
-ghost use Rattle.kconf_constr.specs.Closed.{IsClosed};
-ghost use Rattle.kconf_constr.specs.Meaning.{HasBoolChoices, SayRules, SayValid, SaysRight};
+ghost use Rattle.kconf_constr.specs.Closed.{IsClosed, ListsOuters, NamesNodes};
+ghost use Rattle.kconf_constr.specs.Depth.{AreShallow};
+ghost use Rattle.kconf_constr.specs.Folded.{HasFolded};
+ghost use Rattle.kconf_constr.specs.Meaning.{SayRules, SayValid, SaysRight};
 
-use crate::items::{own_items, with_loose};
+use crate::items::{mode_items, own_items, with_loose};
 use crate::scope::Scope;
 use kconf_tree::Tree;
 use std::alloc::{AllocError, Global};
-use ut_logic::{Fact, Facts, Item, Node, Sequence, Text};
+use ut_logic::{Fact, Facts, Node, Sequence, Text};
 
 /// Adds the nodes of members.
 fn add_members(members: &[u32], names: &mut Vec<Node>) -> Result<(), AllocError>
@@ -70,7 +72,7 @@ impl<'a> Scope<'a> {
         ensures { IfOk result (λ f. f ≡ spec.choice_fact self.now choice) }
     {
         let holds = self.choice_holds(alloc, choice)?;
-        let own = vec![in alloc; Item::ModeY(choice)]?;
+        let own = mode_items(alloc, self.tree().choice_counts(choice), choice)?;
         let items = with_loose(alloc, own, &holds)?;
         let names = self.choice_names(alloc, choice)?;
         Ok(Fact {
@@ -124,9 +126,13 @@ impl<'a> Scope<'a> {
 /// this project's rule.
 pub fn constraints(alloc: Global, tree: &Tree) -> Result<Facts, AllocError>
     ensures facts { IfOk result (λ f. f.list ≡ spec.facts_of (whole tree.now.shape)) }
-    ensures closed { IfOk result (λ f. All (IsClosed tree.now.shape) f.list) }
-    ensures means { HasBoolChoices tree.now.shape → IfOk result (λ f. All (SaysRight (whole tree.now.shape)) f.list) }
-    ensures valid { HasBoolChoices tree.now.shape → IfOk result (λ f. SayValid tree.now.shape f.list) }
+    ensures closed { IfOk result (λ f. All (IsClosed (whole tree.now.shape)) f.list) }
+    ensures named { IfOk result (λ f. All (NamesNodes tree.now.shape) f.list) }
+    ensures outers { IfOk result (λ f. All ListsOuters f.list) }
+    ensures depth { IfOk result (λ f. AreShallow tree.now.shape f.list) }
+    ensures folded { IfOk result (λ f. All HasFolded f.list) }
+    ensures means { IfOk result (λ f. All (SaysRight (whole tree.now.shape)) f.list) }
+    ensures valid { IfOk result (λ f. SayValid tree.now.shape f.list) }
 {
     let _order = tree.order();
     Scope::whole(tree).facts(alloc)
@@ -141,9 +147,13 @@ pub fn free_constraints(
 ) -> Result<Facts, AllocError>
     requires { IsRising undeclared.now }
     ensures facts { IfOk result (λ f. f.list ≡ spec.facts_of (with_undeclared tree.now.shape undeclared.now)) }
-    ensures closed { IfOk result (λ f. All (IsClosed tree.now.shape) f.list) }
-    ensures means { HasBoolChoices tree.now.shape → IfOk result (λ f. All (SaysRight (with_undeclared tree.now.shape undeclared.now)) f.list) }
-    ensures valid { HasBoolChoices tree.now.shape → IfOk result (λ f. SayRules (with_undeclared tree.now.shape undeclared.now) f.list) }
+    ensures closed { IfOk result (λ f. All (IsClosed (with_undeclared tree.now.shape undeclared.now)) f.list) }
+    ensures named { IfOk result (λ f. All (NamesNodes tree.now.shape) f.list) }
+    ensures outers { IfOk result (λ f. All ListsOuters f.list) }
+    ensures depth { IfOk result (λ f. AreShallow tree.now.shape f.list) }
+    ensures folded { IfOk result (λ f. All HasFolded f.list) }
+    ensures means { IfOk result (λ f. All (SaysRight (with_undeclared tree.now.shape undeclared.now)) f.list) }
+    ensures valid { IfOk result (λ f. SayRules (with_undeclared tree.now.shape undeclared.now) f.list) }
 {
     let _order = tree.order();
     Scope::with_undeclared(tree, undeclared).facts(alloc)

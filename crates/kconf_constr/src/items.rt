@@ -21,8 +21,9 @@ fn keep_loose(items: &mut Vec<Item>)
     items.retain(|item| is_loose(*item));
 }
 
-/// The items of the formulas that no node has as its own. The only error is out of memory.
-fn loose_items(alloc: Global, formulas: &[Formula]) -> Result<Vec<Item>, AllocError>
+/// The items that these formulas mention and no node has as its own, each as often as it is mentioned. The only
+/// error is out of memory.
+pub fn loose_items(alloc: Global, formulas: &[Formula]) -> Result<Vec<Item>, AllocError>
     ensures { IfOk result (λ items. items.items ≡ spec.loose_items formulas.now) }
 {
     let mut items = Vec::new(alloc);
@@ -42,6 +43,16 @@ pub fn with_loose(
     let mut loose = loose_items(alloc, formulas)?;
     own.append(&mut loose)?;
     Ok(own)
+}
+
+/// The items of a choice that counts as this.
+pub fn mode_items(alloc: Global, counts: Counts, choice: u32) -> Result<Vec<Item>, AllocError>
+    ensures { IfOk result (λ items. items.items ≡ spec.mode_items counts choice) }
+{
+    match counts {
+        Counts::Bool | Counts::Neither => Ok(vec![in alloc; Item::ModeY(choice)]?),
+        Counts::Tristate => Ok(vec![in alloc; Item::ModeY(choice), Item::ModeM(choice)]?),
+    }
 }
 
 /// The items of a symbol that counts as this.

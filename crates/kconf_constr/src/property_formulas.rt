@@ -1,7 +1,8 @@
-//! The formulas of a symbol's visibility, reverse dependency and default.
+//! The formulas of a symbol's visibility, reverse dependency and default, which gives way where it is implied.
 
 ghost use Rattle.std.specs.Prelude.{◌≡◌, ◌<◌, ◌++◌, ◌∷◌, [], All, IfOk, OnOk, length, map};
-ghost use Rattle.kconf_tree.specs.Shape.{IsSelector, selecting_of};
+ghost use Rattle.kconf_tree.specs.Shape.{IsSelector, IsImplier, selecting_of, implying_of, symbol_at};
+ghost use Rattle.ut_logic.specs.Fold as fold;
 ghost use Rattle.kconf_constr.specs.Levels.{at_level};
 ghost use Rattle.kconf_constr.specs.PropertyFormulas as spec;
 
@@ -25,20 +26,25 @@ fn copies(alloc: Global, formulas: &[Formula]) -> Result<Vec<Formula>, AllocErro
 
 impl<'a> Scope<'a> {
     /// The formula of a condition.
-    fn condition(&self, alloc: Global, e: &Expr, level: Level) -> Result<Formula, AllocError>
+    pub(crate) fn condition(
+        &self,
+        alloc: Global,
+        e: &Expr,
+        level: Level,
+    ) -> Result<Formula, AllocError>
         ensures { IfOk result (λ f. f ≡ spec.condition_at self.now level e.now) }
     {
         self.formula_in(alloc, Place::Condition, e, level)
     }
 
-    /// The formula of the greatest of the prompts' conditions.
-    pub fn prompts_formula(
+    /// The formula of the greatest of these conditions.
+    pub fn greatest_formula(
         &self,
         alloc: Global,
         list: &[Expr],
         level: Level,
     ) -> Result<Formula, AllocError>
-        ensures { IfOk result (λ f. f ≡ at_level level (spec.prompts_levels self.now list.now)) }
+        ensures { IfOk result (λ f. f ≡ at_level level (spec.greatest_levels self.now list.now)) }
     {
         let all = self.formulas_in(alloc, Place::Condition, list, level)?;
         Ok(any_of(all))
@@ -50,10 +56,10 @@ impl<'a> Scope<'a> {
         ensures { IfOk result (λ f. f ≡ at_level level (spec.visibility_levels self.now sym)) }
     {
         let prompts = &self.tree().symbol_at(sym).prompts;
-        self.prompts_formula(alloc, prompts.as_slice(), level)
+        self.greatest_formula(alloc, prompts.as_slice(), level)
     }
 
-    /// The formula of what one select raises its target to.
+    /// The formula of what one select gives its target.
     fn selected(
         &self,
         alloc: Global,
@@ -66,6 +72,33 @@ impl<'a> Scope<'a> {
         let own = self.own_formula(alloc, selector.by, level)?;
         let condition = self.condition(alloc, self.tree().select_condition(selector), level)?;
         Ok(all_of(vec![in alloc; own, condition]?))
+    }
+
+    /// The formula of what one imply gives its target.
+    fn implied(&self, alloc: Global, implier: Selector, level: Level) -> Result<Formula, AllocError>
+        requires { IsImplier self.now.shape implier }
+        ensures { IfOk result (λ f. f ≡ spec.selected_at self.now level (implying_of self.now.shape implier)) }
+    {
+        let own = self.own_formula(alloc, implier.by, level)?;
+        let condition = self.condition(alloc, self.tree().imply_condition(implier), level)?;
+        Ok(all_of(vec![in alloc; own, condition]?))
+    }
+
+    /// The formula of what implies together give their target.
+    fn implied_each(
+        &self,
+        alloc: Global,
+        impliers: &[Selector],
+        level: Level,
+    ) -> Result<Formula, AllocError>
+        requires { All (IsImplier self.now.shape) impliers.now }
+        ensures { IfOk result (λ f. f ≡ spec.reverse_at self.now level (map (implying_of self.now.shape) impliers.now)) }
+    {
+        let mut all = Vec::with_capacity(alloc, impliers.len())?;
+        for implier in impliers {
+            all.push(self.implied(alloc, *implier, level)?)?;
+        }
+        Ok(any_of(all))
     }
 
     /// The formula of what selects together raise their target to.
@@ -135,11 +168,120 @@ impl<'a> Scope<'a> {
         Ok(any_of(parts))
     }
 
+    /// The formula of a symbol's default, where nothing implies it.
+    fn own_default(&self, alloc: Global, sym: u32, level: Level) -> Result<Formula, AllocError>
+        requires { sym < length self.now.shape.symbols }
+        ensures { IfOk result (λ f. f ≡ at_level level (spec.first_levels self.now (symbol_at self.now.shape sym).defaults)) }
+    {
+        self.first_default(alloc, self.tree().symbol_at(sym).defaults.as_slice(), level)
+    }
+
+    /// The formula of a symbol's direct dependency.
+    fn direct(&self, alloc: Global, sym: u32, level: Level) -> Result<Formula, AllocError>
+        requires { sym < length self.now.shape.symbols }
+        ensures { IfOk result (λ f. f ≡ at_level level (spec.greatest_levels self.now (symbol_at self.now.shape sym).places)) }
+    {
+        self.greatest_formula(alloc, self.tree().symbol_at(sym).places.as_slice(), level)
+    }
+
+    /// That the symbol isn't implied, and its own default isn't n, or is y.
+    fn unimplied(
+        &self,
+        alloc: Global,
+        sym: u32,
+        impliers: &[Selector],
+        level: Level,
+    ) -> Result<Formula, AllocError>
+        requires sym { sym < length self.now.shape.symbols }
+        requires impliers { All (IsImplier self.now.shape) impliers.now }
+        ensures { IfOk result (λ f. f ≡ fold.all_of (fold.not_of (spec.reverse_at self.now Level.NotN (map (implying_of self.now.shape) impliers.now)) ∷ at_level level (spec.first_levels self.now (symbol_at self.now.shape sym).defaults) ∷ [])) }
+    {
+        let unimplied = not_of(alloc, self.implied_each(alloc, impliers, Level::NotN)?)?;
+        let own = self.own_default(alloc, sym, level)?;
+        Ok(all_of(vec![in alloc; unimplied, own]?))
+    }
+
+    /// That the default of an implied symbol isn't n.
+    fn weakened_not_n(
+        &self,
+        alloc: Global,
+        sym: u32,
+        impliers: &[Selector],
+    ) -> Result<Formula, AllocError>
+        requires sym { sym < length self.now.shape.symbols }
+        requires impliers { All (IsImplier self.now.shape) impliers.now }
+        ensures { IfOk result (λ f. f ≡ (spec.weakened (spec.selecting_levels self.now (map (implying_of self.now.shape) impliers.now)) (spec.greatest_levels self.now (symbol_at self.now.shape sym).places) (spec.first_levels self.now (symbol_at self.now.shape sym).defaults)).not_n) }
+    {
+        let implied = self.implied_each(alloc, impliers, Level::NotN)?;
+        let direct = self.direct(alloc, sym, Level::NotN)?;
+        let with = all_of(vec![in alloc; implied, direct]?);
+        let without = self.unimplied(alloc, sym, impliers, Level::NotN)?;
+        Ok(any_of(vec![in alloc; with, without]?))
+    }
+
+    /// That the default of an implied symbol is y.
+    fn weakened_is_y(
+        &self,
+        alloc: Global,
+        sym: u32,
+        impliers: &[Selector],
+    ) -> Result<Formula, AllocError>
+        requires sym { sym < length self.now.shape.symbols }
+        requires impliers { All (IsImplier self.now.shape) impliers.now }
+        ensures { IfOk result (λ f. f ≡ (spec.weakened (spec.selecting_levels self.now (map (implying_of self.now.shape) impliers.now)) (spec.greatest_levels self.now (symbol_at self.now.shape sym).places) (spec.first_levels self.now (symbol_at self.now.shape sym).defaults)).is_y) }
+    {
+        let implied = self.implied_each(alloc, impliers, Level::NotN)?;
+        let own = self.own_default(alloc, sym, Level::IsY)?;
+        let implied_y = self.implied_each(alloc, impliers, Level::IsY)?;
+        let raised = any_of(vec![in alloc; own, implied_y]?);
+        let direct = self.direct(alloc, sym, Level::IsY)?;
+        let with = all_of(vec![in alloc; implied, raised, direct]?);
+        let without = self.unimplied(alloc, sym, impliers, Level::IsY)?;
+        Ok(any_of(vec![in alloc; with, without]?))
+    }
+
+    /// The formula of the default of an implied symbol.
+    fn weakened(
+        &self,
+        alloc: Global,
+        sym: u32,
+        impliers: &[Selector],
+        level: Level,
+    ) -> Result<Formula, AllocError>
+        requires sym { sym < length self.now.shape.symbols }
+        requires impliers { All (IsImplier self.now.shape) impliers.now }
+        ensures { IfOk result (λ f. f ≡ at_level level (spec.weakened (spec.selecting_levels self.now (map (implying_of self.now.shape) impliers.now)) (spec.greatest_levels self.now (symbol_at self.now.shape sym).places) (spec.first_levels self.now (symbol_at self.now.shape sym).defaults))) }
+    {
+        match level {
+            Level::NotN => self.weakened_not_n(alloc, sym, impliers),
+            Level::IsY => self.weakened_is_y(alloc, sym, impliers),
+        }
+    }
+
+    /// The formula of a symbol's default, given what implies it.
+    fn default_by(
+        &self,
+        alloc: Global,
+        sym: u32,
+        impliers: &[Selector],
+        level: Level,
+    ) -> Result<Formula, AllocError>
+        requires sym { sym < length self.now.shape.symbols }
+        requires impliers { All (IsImplier self.now.shape) impliers.now }
+        ensures { IfOk result (λ f. f ≡ at_level level (spec.default_by self.now sym (map (implying_of self.now.shape) impliers.now))) }
+    {
+        if impliers.is_empty() {
+            self.own_default(alloc, sym, level)
+        } else {
+            self.weakened(alloc, sym, impliers, level)
+        }
+    }
+
     /// The formula of a symbol's default.
     pub fn default(&self, alloc: Global, sym: u32, level: Level) -> Result<Formula, AllocError>
         requires { sym < length self.now.shape.symbols }
         ensures { IfOk result (λ f. f ≡ at_level level (spec.default_levels self.now sym)) }
     {
-        self.first_default(alloc, self.tree().symbol_at(sym).defaults.as_slice(), level)
+        self.default_by(alloc, sym, self.tree().impliers(sym), level)
     }
 }

@@ -6,7 +6,7 @@ use kconf_entries::Expr;
 use kconf_tree::Tree;
 use std::alloc::Global;
 use std::test::Fail;
-use test_texts::{entries_of, tree_of};
+use test_texts::{entries_of, imply_tree_of, tree_of, tristate_tree_of};
 
 /// What the facts of a text's tree hold, a line for each.
 pub fn held_of(alloc: Global, text: &str) -> Result<String, Fail> {
@@ -18,6 +18,26 @@ pub fn held_free_of(alloc: Global, text: &str) -> Result<String, Fail> {
     let tree = tree_of(alloc, text)?;
     let names = tree.undeclared(alloc)?;
     held(alloc, &free_constraints(alloc, &tree, &names)?)
+}
+
+/// The same where each `select` of the text stands for `imply`.
+pub fn held_implied_of(alloc: Global, text: &str) -> Result<String, Fail> {
+    held(alloc, &constraints(alloc, &imply_tree_of(alloc, text)?)?)
+}
+
+/// The same where each choice of the text stands for a tristate one.
+pub fn held_tristate_of(alloc: Global, text: &str) -> Result<String, Fail> {
+    held(alloc, &constraints(alloc, &tristate_tree_of(alloc, text)?)?)
+}
+
+/// What the facts name where each `select` of the text stands for `imply`.
+pub fn named_implied_of(alloc: Global, text: &str) -> Result<String, Fail> {
+    named(alloc, &constraints(alloc, &imply_tree_of(alloc, text)?)?)
+}
+
+/// What the facts name where each choice of the text stands for a tristate one.
+pub fn named_tristate_of(alloc: Global, text: &str) -> Result<String, Fail> {
+    named(alloc, &constraints(alloc, &tristate_tree_of(alloc, text)?)?)
 }
 
 /// What the facts of a text's tree name, and their items, a line for each.

@@ -12,8 +12,12 @@ mod conditions;
 #[cfg(test)]
 mod free;
 #[cfg(test)]
+mod implies;
+#[cfg(test)]
 mod kinds;
 #[cfg(test)]
 mod names;
+#[cfg(test)]
+mod tristate_choices;
 #[cfg(test)]
 mod writing;

@@ -1,5 +1,5 @@
 //! Facts as words: `y0` that symbol 0 is y, `m0` that it is m, `u0` an undeclared name, `c0` that the mode of a
-//! choice is y, `o0` an outer condition.
+//! choice is y, `d0` that it is m, `o0` an outer condition.
 
 use std::alloc::Global;
 use std::test::Fail;
@@ -20,6 +20,7 @@ fn push_item(text: &mut String, item: Item) -> Result<(), Fail> {
         Item::SymM(sym) => push_number(text, "m", sym as u64),
         Item::Undeclared(number) => push_number(text, "u", number),
         Item::ModeY(choice) => push_number(text, "c", choice as u64),
+        Item::ModeM(choice) => push_number(text, "d", choice as u64),
         Item::Outer(number) => push_number(text, "o", number),
         _ => Err(Fail::from("an item")),
     }

@@ -13,7 +13,7 @@ use Rattle.kconf_tree.specs.declared.shape.Choice.{Choice}
 use Rattle.kconf_tree.specs.declared.types.Declared.{Declared}
 use Rattle.kconf_tree.specs.Shape.{no_choice, is_the}
 use Rattle.kconf_tree.specs.Value.{is_text_or_number}
-use Rattle.kconf_tree.specs.Gathered.{entries_named, first_kind, is_untyped, is_member_of, places_from, types_choice, first_typed, choice_kind, choice_of, choices_from, symbols_of}
+use Rattle.kconf_tree.specs.Gathered.{entries_named, first_kind, is_untyped, is_trit_type, is_member_of, places_from, types_choice, first_typed, choice_kind, choice_of, choices_from, symbols_of}
 use Rattle.kconf_tree.specs.Types.{declared_by, names_of, types_of}
 use Rattle.kconf_tree.specs.Choosing.{is_type_line, has_type_line, typed_at, typed_by, typed_by_all, else_bool, bare_choice, bare_choices, with_one, with_member, with_members}
 use Rattle.kconf_tree.proofs.Places.{position_found}
@@ -97,18 +97,22 @@ module _ (all : List ConfigEntry) where
 
   -- whether the entry has a type line that counts
   abbrev line_of : ConfigEntry → Bool
-  line_of e = not (is_untyped e.kind) && not (is_text_or_number (first_kind (entries_named all e.name)))
+  line_of e = is_trit_type e.kind && not (is_text_or_number (first_kind (entries_named all e.name)))
 
   line_is : (e : ConfigEntry) → list_any (text_eq e.name) (names_of all) ≡ true → has_type_line (types_of all) e ≡ line_of e
   line_is e h = ap (is_type_line (types_of all) e.kind) (number_named all e.name ∙ position_found (text_eq e.name) (names_of all) h)
-      ∙ ap (λ (p : List ℕ × Declared). not (is_untyped e.kind) && not (is_text_or_number p.1.kind)) (declared_found e.name (names_of all) _ h)
+      ∙ ap (λ (p : List ℕ × Declared). is_trit_type e.kind && not (is_text_or_number p.1.kind)) (declared_found e.name (names_of all) _ h)
 
   line_typed : (e : ConfigEntry) → line_of e ≡ true → is_untyped e.kind ≡ false
-  line_typed e = by (is_untyped e.kind) (not (is_text_or_number (first_kind (entries_named all e.name))))
+  line_typed e = by e.kind (not (is_text_or_number (first_kind (entries_named all e.name))))
     where
-      by : (u c : Bool) → (not u && c) ≡ true → u ≡ false
-      by true c h = absurd (false≢true h)
-      by false c h = refl
+      by : (k : Kind) (c : Bool) → (is_trit_type k && c) ≡ true → is_untyped k ≡ false
+      by kind.Bool c h = refl
+      by kind.Tristate c h = refl
+      by kind.Str c h = refl
+      by kind.Hex c h = refl
+      by kind.Int c h = refl
+      by kind.Untyped c h = absurd (false≢true h)
 
   -- the first of some entries
   abbrev first_untyped : List ConfigEntry → Kind

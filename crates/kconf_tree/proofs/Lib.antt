@@ -14,9 +14,15 @@ mod BuildLaws
 pub mod Small
 pub mod ValueLaws
 pub mod RightLaws
+pub mod RightChoices
+pub mod LookLaws
+pub mod SameIn
+pub mod SmallLaws
 pub mod GraphOrders
 pub mod MadeLaws
 mod OrderNodes
+pub mod ReferenceLaws
 mod Words
 mod FeedLaws
 mod Rising
+mod SetLaws

@@ -1,19 +1,24 @@
 -- A tree that is gathered from entries is well made, and the nodes of its order are its own.
-use Rattle.std.proofs.Common.{◌≡◌, ℕ, zero, suc, ◌+◌, ◌<◌, ◌≤◌, ◌==◌, Bool, true, false, ◌||◌, cond, Option, None, Some, IfSome, List, [], ◌∷◌, length, get_or, refl, ap, sym, subst, ◌∙◌, arith, inl, inr}
+use Rattle.std.proofs.Common.{◌≡◌, ℕ, zero, suc, ◌+◌, ◌<◌, ◌≤◌, ◌==◌, Bool, true, false, ◌&&◌, ◌||◌, cond, Option, None, Some, IfSome, List, [], ◌∷◌, length, map, get_or, All, refl, ap, sym, subst, ◌∙◌, arith, inl, inr}
 use Rattle.std.proofs.lemmas.Bool.{false≢true, cases_lt}
 use Rattle.std.proofs.lemmas.Bool.Decides.{nat_tests}
-use Rattle.std.specs.List.{list_any}
-use Rattle.std.proofs.lemmas.List.Elements.{All-get_or}
+use Rattle.std.specs.List.{list_any, AllByRecursion}
+use Rattle.std.proofs.lemmas.List.Elements.{All-get_or, All-from_recursion}
+use Rattle.std.proofs.lemmas.List.Quantifiers.{position-Some}
+use Rattle.kconf_entries.specs.declared.entries.Kind.{Kind}
+use Rattle.kconf_entries.specs.declared.entries.Kind.TheVariants as kind
 use Rattle.kconf_entries.specs.declared.entries.ConfigEntry.{ConfigEntry}
 use Rattle.kconf_entries.specs.declared.entries.ChoiceEntry.{ChoiceEntry}
 use Rattle.kconf_entries.specs.declared.entries.Entries.{Entries}
 use Rattle.kconf_tree.specs.declared.shape.Symbol.{Symbol}
-use Rattle.kconf_tree.specs.Shape.{Shape, symbol_at, choice_at, no_symbol, no_choice, is_the}
-use Rattle.kconf_tree.specs.Gathered.{gathered, symbols_of, choices_from, places_from, is_member_of}
+use Rattle.kconf_tree.specs.Shape.{Shape, symbol_at, choice_at, no_symbol, no_choice, is_the, counts_alone, counts_with, counts_as}
+use Rattle.kconf_tree.specs.declared.shape.Counts.TheVariants as counts
+use Rattle.kconf_tree.specs.Value.{is_text_or_number}
+use Rattle.kconf_tree.specs.Gathered.{gathered, once, entries_named, first_choice, symbol_of, symbols_of, choices_from, places_from, is_member_of, is_bool_or_tristate, has_modules_line}
 use Rattle.kconf_tree.specs.Apart.{AreApart}
 use Rattle.kconf_tree.specs.Built.{HaveChoices}
 use Rattle.kconf_tree.proofs.Bounds.{members_below}
-use Rattle.kconf_tree.proofs.Small.{or_left, or_right, or_cases, number_is, number_self}
+use Rattle.kconf_tree.proofs.Small.{and_left, or_left, or_right, or_cases, number_is, number_self}
 use Rattle.kconf_tree.specs.WellMade.{is_among, IsWellMade}
 
 -- ---- the places at which a test passes
@@ -93,6 +98,37 @@ member_within t made i j h = elim (cases_lt j (length t.symbols)) [
   | inr ge ↦ absurd (let none : None ≡ Some i = sym (ap (λ (s : Symbol). s.member_of) (symbol_past t.symbols j ge)) ∙ made.of_choice i j h in cc)
 ]
 
+-- ---- symbols of texts or numbers
+
+-- such a symbol is no member
+abbrev IsLoneText : Symbol → Type 0
+IsLoneText s = is_text_or_number s.kind ≡ true → s.member_of ≡ None
+
+texts_alone : (es : List ConfigEntry) → All IsLoneText (symbols_of es)
+texts_alone es = All-from_recursion IsLoneText (symbols_of es) (each (once (map (λ (x : ConfigEntry). x.name) es)))
+  where
+    each : (ns : List (List ℕ)) → AllByRecursion IsLoneText (map (λ name. symbol_of (entries_named es name) name) ns)
+    each [] = tt
+    each (n ∷ ns) = (λ h. ap (λ b. cond b None (first_choice (entries_named es n))) h, each ns)
+
+-- it has no `modules`
+no_text : (k : Kind) (s : Symbol) → is_text_or_number k ≡ true → is_bool_or_tristate (record s { kind = k }) ≡ false
+no_text kind.Bool s h = absurd (false≢true h)
+no_text kind.Tristate s h = absurd (false≢true h)
+no_text kind.Str s h = refl
+no_text kind.Hex s h = refl
+no_text kind.Int s h = refl
+no_text kind.Untyped s h = absurd (false≢true h)
+
+-- it counts as neither by itself
+neither : (k : Kind) → is_text_or_number k ≡ true → counts_alone k ≡ counts.Neither
+neither kind.Bool h = absurd (false≢true h)
+neither kind.Tristate h = absurd (false≢true h)
+neither kind.Str h = refl
+neither kind.Hex h = refl
+neither kind.Int h = refl
+neither kind.Untyped h = absurd (false≢true h)
+
 module _ (e : Entries) where
   abbrev t : Shape
   t = gathered e
@@ -124,5 +160,23 @@ module _ (e : Entries) where
     | inr ge ↦ absurd (let none : None ≡ Some i = sym (ap (λ (s : Symbol). s.member_of) (symbol_past (symbols_of e.configs) j ge)) ∙ h in cc)
   ]
 
+  -- the symbol that `modules` names
+  abbrev is_modules : Symbol → Bool
+  is_modules s = is_bool_or_tristate s && has_modules_line e.configs s
+
+  modules_here : (k : ℕ) → t.modules ≡ Some k → k < length t.symbols
+  modules_here k h = (position-Some is_modules (symbols_of e.configs) k no_symbol h).0
+
+  texts_here : (k : ℕ) → is_text_or_number (symbol_at t k).kind ≡ true → counts_as t k ≡ counts.Neither
+  texts_here k h = elim (cases_lt k (length (symbols_of e.configs))) [
+    | inl lt ↦ by (is_the t.modules k) refl (All-get_or IsLoneText (symbols_of e.configs) k no_symbol lt (texts_alone e.configs) h)
+    | inr ge ↦ absurd (false≢true (sym (ap (λ (s : Symbol). is_text_or_number s.kind) (symbol_past (symbols_of e.configs) k ge)) ∙ h))
+  ]
+    where
+      by : (b : Bool) → is_the t.modules k ≡ b → (symbol_at t k).member_of ≡ None → counts_as t k ≡ counts.Neither
+      by true g m = absurd (false≢true (sym (no_text (symbol_at t k).kind (symbol_at t k) h)
+          ∙ and_left (is_bool_or_tristate (symbol_at t k)) (has_modules_line e.configs (symbol_at t k)) (position-Some is_modules (symbols_of e.configs) k no_symbol (is_some_of t.modules k g)).1))
+      by false g m = ap (λ b. cond b counts.Bool (counts_with t (symbol_at t k).kind (symbol_at t k).member_of)) g ∙ (ap (counts_with t (symbol_at t k).kind) m ∙ neither (symbol_at t k).kind h)
+
   pub made_here : HaveChoices e → IsWellMade t
-  made_here have = record { apart = apart_here; of_choice = of_choice_here; listed = listed_here have }
+  made_here have = record { apart = apart_here; of_choice = of_choice_here; listed = listed_here have; modules = modules_here; texts = texts_here }

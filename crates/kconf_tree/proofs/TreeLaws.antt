@@ -18,9 +18,9 @@ use Rattle.kconf_entries.specs.declared.entries.Entries.{Entries}
 use Rattle.kconf_tree.specs.declared.shape.Symbol.{Symbol}
 use Rattle.kconf_tree.specs.declared.types.Declared.{Declared}
 use Rattle.kconf_tree.specs.Shape.{Shape, no_symbol, number_of}
-use Rattle.kconf_tree.specs.Value.{has_trit, has_trit_named, is_text_or_number, compares_trits, is_equation}
+use Rattle.kconf_tree.specs.Value.{has_trit, has_trit_named, is_text_or_number, compares_trits, is_equation, OfTrits, OfText}
 use Rattle.kconf_entries.specs.Written.{comparison_text}
-use Rattle.kconf_tree.specs.Gathered.{once, entries_named, symbol_of, symbols_of, is_bool_or_tristate, has_modules_line, modules_of, outers_step, outers_in, without_outers, gathered}
+use Rattle.kconf_tree.specs.Gathered.{once, entries_named, symbol_of, symbols_of, is_bool_or_tristate, has_modules_line, modules_of, outers_step, compared_outers, outers_in, without_outers, gathered}
 use Rattle.kconf_tree.specs.Types.{declared_by, names_of, types_of, typed, typed_symbol, declared_at, outers_with}
 use Rattle.kconf_tree.specs.Modules.{modules_from}
 use Rattle.kconf_tree.specs.Apart.{names_in}
@@ -108,7 +108,7 @@ module _ (e : Entries) where
   step_same (Expr-F.Const c) = refl
   step_same (Expr-F.Name n) = refl
   step_same (Expr-F.Outer text) = refl
-  step_same (Expr-F.Compare l s r) = ap (λ b. cond b [] (comparison_text l s r ∷ [])) (compares_same l s r)
+  step_same (Expr-F.Compare l s r) = ap (λ b. compared_outers (cond b OfTrits (OfText (comparison_text l s r)))) (compares_same l s r)
   step_same (Expr-F.Neg texts) = refl
   step_same (Expr-F.And lists) = refl
   step_same (Expr-F.Or lists) = refl

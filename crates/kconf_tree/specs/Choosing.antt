@@ -11,13 +11,13 @@ use Rattle.kconf_tree.specs.declared.shape.Choice.{Choice}
 use Rattle.kconf_tree.specs.declared.types.Declared.{Declared}
 use Rattle.kconf_tree.specs.Shape.{no_choice, number_of}
 use Rattle.kconf_tree.specs.Value.{is_text_or_number}
-use Rattle.kconf_tree.specs.Gathered.{is_untyped}
+use Rattle.kconf_tree.specs.Gathered.{is_untyped, is_trit_type}
 use Rattle.kconf_tree.specs.Types.{typed, declared_at}
 
--- a type line of a symbol that has no text or number
+-- a type, bool or tristate, of a symbol that has no text or number
 abbrev pub is_type_line : List (Bytes × Declared) → Kind → Option ℕ → Bool
 is_type_line ts k None = false
-is_type_line ts k (Some n) = not (is_untyped k) && not (is_text_or_number (declared_at ts n).kind)
+is_type_line ts k (Some n) = is_trit_type k && not (is_text_or_number (declared_at ts n).kind)
 
 -- whether the entry has one
 abbrev pub has_type_line : List (Bytes × Declared) → ConfigEntry → Bool

@@ -20,8 +20,7 @@ use Rattle.kconf_entries.specs.declared.entries.Entries.{Entries}
 use Rattle.kconf_tree.specs.declared.shape.Symbol.{Symbol}
 use Rattle.kconf_tree.specs.declared.shape.Choice.{Choice}
 use Rattle.kconf_tree.specs.Shape.{Shape, is_the}
-use Rattle.kconf_entries.specs.Written.{comparison_text}
-use Rattle.kconf_tree.specs.Value.{is_text_or_number, compares_trits}
+use Rattle.kconf_tree.specs.Value.{is_text_or_number, Comparison, OfTrits, OfText, comparison_of}
 
 -- the elements of a list, each at its first place
 abbrev pub distinct : {A : Type 0} → (A → A → Bool) → List A → List A
@@ -83,11 +82,20 @@ abbrev pub places_from : {A : Type 0} → ℕ → (A → Bool) → List A → Li
 places_from n p [] = []
 places_from n p (x ∷ xs) = if p x then n ∷ places_from (suc n) p xs else places_from (suc n) p xs
 
--- a type line of the choice: of an entry in it whose symbol has no text or number
-abbrev pub types_choice : List ConfigEntry → ℕ → ConfigEntry → Bool
-types_choice es i e = is_the e.choice i && (not (is_untyped e.kind) && not (is_text_or_number (first_kind (entries_named es e.name))))
+-- bool or tristate
+abbrev pub is_trit_type : Kind → Bool
+is_trit_type kind.Bool = true
+is_trit_type kind.Tristate = true
+is_trit_type kind.Str = false
+is_trit_type kind.Hex = false
+is_trit_type kind.Int = false
+is_trit_type kind.Untyped = false
 
--- a choice's type is its own, else that of the first type line in it, else bool
+-- an entry that types its choice: it is bool or tristate, and its symbol has no text or number
+abbrev pub types_choice : List ConfigEntry → ℕ → ConfigEntry → Bool
+types_choice es i e = is_the e.choice i && (is_trit_type e.kind && not (is_text_or_number (first_kind (entries_named es e.name))))
+
+-- a choice's type is its own, else that of the first entry that types it, else bool
 abbrev pub first_typed : List ConfigEntry → Kind
 first_typed [] = kind.Bool
 first_typed (e ∷ es) = e.kind
@@ -137,10 +145,15 @@ modules_of es = position (λ s. is_bool_or_tristate s && has_modules_line es s) 
 abbrev pub joined : List (List Bytes) → List Bytes
 joined = flat_map (λ texts. texts)
 
+-- that of a comparison
+abbrev pub compared_outers : Comparison → List Bytes
+compared_outers OfTrits = []
+compared_outers (OfText text) = text ∷ []
+
 -- `t` has the types that names are declared with
 abbrev pub outers_step : Shape → Expr-F (List Bytes) → List Bytes
 outers_step t (Expr-F.Outer text) = text ∷ []
-outers_step t (Expr-F.Compare left s right) = if compares_trits t left s right then [] else comparison_text left s right ∷ []
+outers_step t (Expr-F.Compare left s right) = compared_outers (comparison_of t left s right)
 outers_step t (Expr-F.Neg texts) = texts
 outers_step t (Expr-F.And lists) = joined lists
 outers_step t (Expr-F.Or lists) = joined lists

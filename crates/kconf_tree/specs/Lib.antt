@@ -11,6 +11,8 @@ pub mod Limits
 pub mod OrderedTree
 pub mod WellMade
 pub mod Undeclared
+pub mod Looks
+pub mod Parts
 pub mod Built
 pub mod Apart
 -- the words of inner functions
@@ -24,3 +26,4 @@ pub mod Feeding
 pub mod Linking
 pub mod Links
 pub mod Numbering
+pub mod Naming

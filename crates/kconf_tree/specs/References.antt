@@ -21,7 +21,7 @@ use Rattle.kconf_tree.specs.declared.shape.Counts.{Counts}
 use Rattle.kconf_tree.specs.declared.shape.Counts.TheVariants as counts
 use Rattle.kconf_tree.specs.Shape.{Selecting}
 use Rattle.kconf_tree.specs.Shape.{Shape, symbol_at, choice_at, is_the, number_of, counts_alone, counts_as, selectors_of, impliers_of}
-use Rattle.kconf_tree.specs.Value.{Place, Condition, Value, compares_trits}
+use Rattle.kconf_tree.specs.Value.{Place, Condition, Value, Comparison, OfTrits, OfText, comparison_of}
 
 -- ---- expressions
 
@@ -40,15 +40,16 @@ const_numbers t Condition M = option_to_list t.modules
 const_numbers t p x = []
 
 -- both sides of a comparison of two of the three values
-abbrev pub compared_numbers : Shape → Side → Sign → Side → List ℕ
-compared_numbers t left s right = if compares_trits t left s right then side_numbers t left ++ side_numbers t right else []
+abbrev pub compared_numbers : Shape → Side → Side → Comparison → List ℕ
+compared_numbers t left right OfTrits = side_numbers t left ++ side_numbers t right
+compared_numbers t left right (OfText text) = []
 
 -- what stands in outer conditions alone doesn't count
 abbrev pub numbers_step : Shape → Place → Expr-F (List ℕ) → List ℕ
 numbers_step t p (Expr-F.Const x) = const_numbers t p x
 numbers_step t p (Expr-F.Name name) = named_by t name
 numbers_step t p (Expr-F.Outer text) = []
-numbers_step t p (Expr-F.Compare left s right) = compared_numbers t left s right
+numbers_step t p (Expr-F.Compare left s right) = compared_numbers t left right (comparison_of t left s right)
 numbers_step t p (Expr-F.Neg ks) = ks
 numbers_step t p (Expr-F.And lists) = flat_map (λ ks. ks) lists
 numbers_step t p (Expr-F.Or lists) = flat_map (λ ks. ks) lists

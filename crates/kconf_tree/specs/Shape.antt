@@ -98,6 +98,14 @@ selecting_of t s = selecting_in (symbol_at t s.by).selects s
 abbrev pub IsSelector : Shape → Selector → Type 0
 IsSelector t s = (s.by < length t.symbols) × (s.nth < length (symbol_at t s.by).selects)
 
+-- likewise the imply that is named so
+abbrev pub implying_of : Shape → Selector → Selecting
+implying_of t s = selecting_in (symbol_at t s.by).implies s
+
+-- the imply exists
+abbrev pub IsImplier : Shape → Selector → Type 0
+IsImplier t s = (s.by < length t.symbols) × (s.nth < length (symbol_at t s.by).implies)
+
 -- who selects a symbol, in order of declaration
 abbrev pub selects_at : Bytes → ℕ → List SelectOf → List Selecting
 selects_at name j [] = []

@@ -8,7 +8,6 @@ use Rattle.ut_text.specs.Bytes.{Bytes}
 use Rattle.ut_text.specs.Text.{text_cmp}
 use Rattle.kconf_entries.specs.declared.expr.Side.{Side}
 use Rattle.kconf_entries.specs.declared.expr.Side.TheVariants as side
-use Rattle.kconf_entries.specs.declared.expr.Sign.{Sign}
 use Rattle.kconf_entries.specs.declared.expr.Expr.{Expr}
 use Rattle.kconf_entries.specs.declared.expr.Expr.TheOpen.{Expr-F}
 use Rattle.kconf_entries.specs.declared.expr.Expr.TheFolds.{fold-Expr}
@@ -17,7 +16,7 @@ use Rattle.kconf_entries.specs.declared.entries.SelectOf.{SelectOf}
 use Rattle.kconf_tree.specs.declared.shape.Symbol.{Symbol}
 use Rattle.kconf_tree.specs.declared.shape.Choice.{Choice}
 use Rattle.kconf_tree.specs.Shape.{Shape, number_of}
-use Rattle.kconf_tree.specs.Value.{compares_trits}
+use Rattle.kconf_tree.specs.Value.{Comparison, OfTrits, OfText, comparison_of}
 
 -- a name that no symbol has
 abbrev pub unless_declared : Shape → Bytes → List Bytes
@@ -29,15 +28,16 @@ side_undeclared t (side.Name name) = unless_declared t name
 side_undeclared t s = []
 
 -- those of a comparison of two of the three values
-abbrev pub compared_undeclared : Shape → Side → Sign → Side → List Bytes
-compared_undeclared t left s right = if compares_trits t left s right then side_undeclared t left ++ side_undeclared t right else []
+abbrev pub compared_undeclared : Shape → Side → Side → Comparison → List Bytes
+compared_undeclared t left right OfTrits = side_undeclared t left ++ side_undeclared t right
+compared_undeclared t left right (OfText text) = []
 
 -- by the parts of an expression
 abbrev pub undeclared_step : Shape → Expr-F (List Bytes) → List Bytes
 undeclared_step t (Expr-F.Const x) = []
 undeclared_step t (Expr-F.Name name) = unless_declared t name
 undeclared_step t (Expr-F.Outer text) = []
-undeclared_step t (Expr-F.Compare left s right) = compared_undeclared t left s right
+undeclared_step t (Expr-F.Compare left s right) = compared_undeclared t left right (comparison_of t left s right)
 undeclared_step t (Expr-F.Neg names) = names
 undeclared_step t (Expr-F.And lists) = flat_map (λ names. names) lists
 undeclared_step t (Expr-F.Or lists) = flat_map (λ names. names) lists

@@ -1,7 +1,7 @@
 -- Configurations, and the value of an expression under one, where n is 0, m is 1 and y is 2.
 -- Rule: Linux kconfig-language, "Menu dependencies". That comparisons of other types are free
 -- conditions, and that undeclared names may be read as y, is this project's rule.
-use Rattle.std.specs.Prelude.{ℕ, ◌-◌, ◌==◌, Bool, true, false, not, ◌&&◌, List, [], ◌∷◌, Option, None, Some, if◌then◌else◌, min, max}
+use Rattle.std.specs.Prelude.{ℕ, ◌-◌, ◌≤◌, ◌==◌, Bool, true, false, not, ◌&&◌, List, [], ◌∷◌, Option, None, Some, if◌then◌else◌, min, max}
 use Rattle.ut_text.specs.Bytes.{Bytes}
 use Rattle.ut_logic.specs.Trit.{rank}
 use Rattle.ut_logic.specs.declared.trit.Trit.{Trit}
@@ -30,6 +30,10 @@ pub record Configuration : Type 0 where
   pub mode : ℕ → ℕ
   pub outer : ℕ → Bool
   pub undeclared : Bytes → Bool
+
+-- each value is n, m or y
+abbrev pub HasValues : Configuration → Type 0
+HasValues c = (k : ℕ) → c.value k ≤ 2
 
 -- the minimum of values, y of none
 abbrev pub least : List ℕ → ℕ
@@ -104,9 +108,18 @@ abbrev pub compared : Sign → ℕ → ℕ → ℕ
 compared sign.Same a b = if a == b then 2 else 0
 compared s a b = if a == b then 0 else 2
 
--- whether a comparison compares two of the three values; every other is an outer condition
+-- whether a comparison is of two of the three values
 abbrev pub compares_trits : Shape → Side → Sign → Side → Bool
 compares_trits t left s right = is_equation s && (has_trit t left && has_trit t right)
+
+-- what a comparison is: of two of the three values, or else an outer condition of this text
+pub data Comparison : Type 0 where
+  OfTrits : Comparison
+  OfText : Bytes → Comparison
+
+-- what this comparison is
+abbrev pub comparison_of : Shape → Side → Sign → Side → Comparison
+comparison_of t left s right = if compares_trits t left s right then OfTrits else OfText (comparison_text left s right)
 
 -- ---- the value of an expression
 
@@ -117,6 +130,11 @@ outer_value t c text = truth_of (outer_at t text)
     truth_of : Option ℕ → ℕ
     truth_of None = 0
     truth_of (Some k) = if c.outer k then 2 else 0
+
+-- the value of a comparison
+abbrev pub comparison_value : Shape → Configuration → Side → Sign → Side → Comparison → ℕ
+comparison_value t c left s right OfTrits = compared s (side_value t c left) (side_value t c right)
+comparison_value t c left s right (OfText text) = outer_value t c text
 
 -- a constant, where a bare m looks at the place
 abbrev pub const_value : Shape → Configuration → Place → Trit → ℕ
@@ -130,7 +148,7 @@ abbrev pub value_step : Shape → Configuration → Place → Expr-F ℕ → ℕ
 value_step t c p (Expr-F.Const x) = const_value t c p x
 value_step t c p (Expr-F.Name name) = name_value t c name
 value_step t c p (Expr-F.Outer text) = outer_value t c text
-value_step t c p (Expr-F.Compare left s right) = if compares_trits t left s right then compared s (side_value t c left) (side_value t c right) else outer_value t c (comparison_text left s right)
+value_step t c p (Expr-F.Compare left s right) = comparison_value t c left s right (comparison_of t left s right)
 value_step t c p (Expr-F.Neg x) = 2 - x
 value_step t c p (Expr-F.And xs) = least xs
 value_step t c p (Expr-F.Or xs) = greatest xs

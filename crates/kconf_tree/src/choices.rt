@@ -21,13 +21,24 @@ fn own_kinds(alloc: Global, choices: &[ChoiceEntry]) -> Result<Vec<Kind>, AllocE
     Ok(kinds)
 }
 
-/// Whether the entry has a type line that counts for the choice that it stands in.
+/// Whether a type is bool or tristate.
+fn is_trit_type(kind: Kind) -> bool
+    ensures { result ≡ spec.is_trit_type kind }
+{
+    match kind {
+        Kind::Bool | Kind::Tristate => true,
+        Kind::Str | Kind::Hex | Kind::Int | Kind::Untyped => false,
+    }
+}
+
+/// Whether the entry types the choice that it stands in: it is bool or tristate, and its symbol has no text or
+/// number.
 fn has_type_line(types: &Types, config: &ConfigEntry) -> bool
     ensures { result ≡ choosing.has_type_line types.now config.now }
 {
     match types.number(&config.name) {
         None => false,
-        Some(number) => !is_untyped(config.kind) && !is_text_or_number(types.at(number).kind),
+        Some(number) => is_trit_type(config.kind) && !is_text_or_number(types.at(number).kind),
     }
 }
 

@@ -15,6 +15,7 @@ mod bad;
 mod choices;
 mod gather;
 mod having_choices;
+mod laws;
 mod limits;
 mod links;
 mod modules_symbol;
@@ -32,6 +33,7 @@ mod types;
 
 pub use bad::TreeBad;
 pub use having_choices::have_choices;
+pub use laws::{first_cycle_is_one, references_are_nodes, rules_look_at_the_tree};
 pub use place::Place;
 pub use shape::{Choice, Counts, Selector, Symbol};
 pub use tree::Tree;

@@ -16,7 +16,7 @@ use std::alloc::AllocError;
 use ut_logic::Text;
 
 /// What a type counts as, by itself.
-fn counts_alone(kind: Kind) -> Counts
+pub fn counts_alone(kind: Kind) -> Counts
     ensures { result ≡ shape.counts_alone kind }
 {
     match kind {

@@ -89,7 +89,7 @@ impl Parts {
         row: &mut Items<u32>,
     ) -> Result<(), AllocError>
         requires { All (λ k. k < length self.now.symbols) row.old }
-        ensures row { OnOk result (row.new ≡ row.old ++ spec.compared_numbers self.now left.now sign right.now) }
+        ensures row { OnOk result (row.new ≡ row.old ++ spec.compared_numbers self.now left.now right.now (value.comparison_of self.now left.now sign right.now)) }
         ensures within { OnOk result (All (λ k. k < length self.now.symbols) row.new) }
     {
         if !self.compares_trits(left, sign, right) {

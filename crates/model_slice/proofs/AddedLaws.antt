@@ -1,11 +1,12 @@
 -- What the nodes are after more are added.
-use Rattle.std.proofs.Common.{◌≡◌, ℕ, ◌≤◌, Bool, true, false, ◌||◌, cond, List, [], ◌∷◌, ◌++◌, length, take, refl, sym, ap, ◌∙◌, arith}
+use Rattle.std.proofs.Common.{◌≡◌, ℕ, suc, ◌+◌, ◌<◌, ◌≤◌, Bor, Bool, true, false, ◌||◌, cond, List, [], ◌∷◌, ◌++◌, length, take, drop, get_or, refl, sym, ap, ◌∙◌, arith}
 use Rattle.std.proofs.lemmas.Grind.{common_steps}
 use Rattle.std.proofs.Common.{length-append}
 use Rattle.std.proofs.lemmas.List.{take-append-le, append-nil, append_assoc}
 use Rattle.std.proofs.lemmas.List.Folds.{list_any-append}
 use Rattle.std.proofs.lemmas.Map.Keys.{IsDistinct-push}
-use Rattle.std.specs.List.{IsDistinct}
+use Rattle.std.specs.List.{IsDistinct, flat_map}
+use Rattle.std.proofs.Math.Seq.{drop-cons}
 use Rattle.std.specs.Cmp.{IsEquivalence, eq_by_cmp_equiv}
 use Rattle.ut_logic.specs.declared.node.Node.{Node}
 use Rattle.ut_logic.specs.Node.{node_eq, node_total}
@@ -73,8 +74,17 @@ one_grows ns n = by (has ns n)
     by true = ([], sym (append-nil ns))
     by false = (n ∷ [], refl)
 
--- what is new stands behind what was there
+-- what is new stands after what was there
 pub added_grows : (ns more : List Node) → (extra : List Node) × (added ns more ≡ ns ++ extra)
 added_grows ns [] = ([], sym (append-nil ns))
 added_grows ns (m ∷ more) = let one = one_grows ns m in let rest = added_grows (with_one ns m) more in
     (one.0 ++ rest.0, rest.1 ∙ (ap (λ (l : List Node). l ++ rest.0) one.1 ∙ append_assoc ns one.0 rest.0))
+
+-- those of the first of several lists are added before the rest
+pub next_list : (ns : List Node) (each : List (Bor (List Node))) (k : ℕ) (d : Bor (List Node)) → k < length each
+    → added ns (flat_map (λ (s : Bor (List Node)). s.now) (drop k each)) ≡ added (added ns (get_or each k d).now) (flat_map (λ (s : Bor (List Node)). s.now) (drop (k + 1) each))
+next_list ns each k d h = ap (λ (es : List (Bor (List Node))). added ns (flat_map (λ (s : Bor (List Node)). s.now) es)) (drop-cons each k d h)
+    ∙ (added-append ns (get_or each k d).now (flat_map (λ (s : Bor (List Node)). s.now) (drop (suc k) each)) ∙ same)
+  where
+    same : added (added ns (get_or each k d).now) (flat_map (λ (s : Bor (List Node)). s.now) (drop (suc k) each)) ≡ added (added ns (get_or each k d).now) (flat_map (λ (s : Bor (List Node)). s.now) (drop (k + 1) each))
+    same = let e : suc k ≡ k + 1 = omega arith in ap (λ j. added (added ns (get_or each k d).now) (flat_map (λ (s : Bor (List Node)). s.now) (drop j each))) e

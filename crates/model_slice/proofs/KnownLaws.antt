@@ -1,27 +1,24 @@
 -- Which nodes have a fact.
-use Rattle.std.proofs.Common.{◌≡◌, ℕ, ◌+◌, Bool, true, false, ◌||◌, ◌&&◌, cond, Some, is_some, List, [], ◌∷◌, refl, sym, ap, ◌∙◌, arith}
+use Rattle.std.proofs.Common.{◌≡◌, Bool, true, false, ◌||◌, ◌&&◌, cond, Some, is_some, List, [], ◌∷◌, refl, sym, ap, ◌∙◌, arith}
 use Rattle.std.proofs.lemmas.Grind.{common_steps}
 use Rattle.std.specs.List.{list_all}
 use Rattle.ut_logic.specs.declared.node.Node.{Node}
 use Rattle.ut_logic.specs.declared.facts.Fact.{Fact}
 use Rattle.ut_logic.specs.Node.{node_eq}
-use Rattle.model_slice.specs.Named.{nodes_of, names_of, AreKnown}
-use Rattle.model_slice.specs.Found.{has, place_from, has_fact}
+use Rattle.model_slice.specs.Named.{nodes_of, first_of, names_of, AreKnown}
+use Rattle.model_slice.specs.Found.{has, has_fact}
 use Rattle.model_slice.proofs.AddedLaws.{laws, has_alike}
 use Rattle.model_slice.proofs.TestLaws.{HasAll, all_have, have_all}
 use Rattle.model_slice.proofs.Progress.{names_alike}
 
-fact_from : (k : ℕ) (facts : List Fact) (n : Node) → is_some (place_from k facts n) ≡ has (nodes_of facts) n
-fact_from k [] n = refl
-fact_from k (f ∷ fs) n = by (node_eq f.node n) refl (fact_from (k + 1) fs n)
-  where
-    by : (b : Bool) → node_eq f.node n ≡ b → is_some (place_from (k + 1) fs n) ≡ has (nodes_of fs) n → is_some (cond b (Some k) (place_from (k + 1) fs n)) ≡ (node_eq n f.node || has (nodes_of fs) n)
-    by true e r = sym (ap (λ b. b || has (nodes_of fs) n) (laws.symm n f.node ∙ e))
-    by false e r = r ∙ sym (ap (λ b. b || has (nodes_of fs) n) (laws.symm n f.node ∙ e))
-
 -- a node has a fact where it stands among their nodes
 pub has_fact-nodes_of : (facts : List Fact) (n : Node) → has_fact facts n ≡ has (nodes_of facts) n
-has_fact-nodes_of facts n = fact_from 0 facts n
+has_fact-nodes_of [] n = refl
+has_fact-nodes_of (f ∷ fs) n = by (node_eq f.node n) refl (has_fact-nodes_of fs n)
+  where
+    by : (b : Bool) → node_eq f.node n ≡ b → is_some (first_of fs n) ≡ has (nodes_of fs) n → is_some (cond b (Some f) (first_of fs n)) ≡ (node_eq n f.node || has (nodes_of fs) n)
+    by true e r = sym (ap (λ b. b || has (nodes_of fs) n) (laws.symm n f.node ∙ e))
+    by false e r = r ∙ sym (ap (λ b. b || has (nodes_of fs) n) (laws.symm n f.node ∙ e))
 
 and_first : (a b : Bool) → (a && b) ≡ true → a ≡ true
 and_first true b h = refl

@@ -1,6 +1,9 @@
+pub mod FindLaws
 pub mod PlaceLaws
 pub mod AddedLaws
 pub mod TestLaws
 pub mod ClosedLaws
 pub mod Progress
+pub mod MetLaws
+pub mod SliceLaws
 pub mod KnownLaws

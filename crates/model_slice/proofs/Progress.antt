@@ -106,10 +106,10 @@ steps facts from k (n ∷ ns) front rest found e p =
     let one = step facts from found (length front) k p (omega (arith, ap length e, length-append front (n ∷ (ns ++ rest)))) n
     (λ d. ap (λ (l : List Node). get_or l (length front) d) e ∙ get_or-append_seam front n (ns ++ rest) d) in
     let before = front ++ n ∷ [] in
-    let behind = rest ++ grown.0 in
-    let same : next ≡ before ++ (ns ++ behind) = grown.1 ∙ (ap (λ (l : List Node). l ++ grown.0) e ∙ (append_assoc front (n ∷ (ns ++ rest)) grown.0
-    ∙ (ap (λ (l : List Node). front ++ n ∷ l) (append_assoc ns rest grown.0) ∙ sym (append_assoc front (n ∷ []) (ns ++ behind))))) in
-    let all = steps facts from k ns before behind next same (subst (Progress facts from next) (omega (arith, length-append front (n ∷ []))) one) in
+    let after = rest ++ grown.0 in
+    let same : next ≡ before ++ (ns ++ after) = grown.1 ∙ (ap (λ (l : List Node). l ++ grown.0) e ∙ (append_assoc front (n ∷ (ns ++ rest)) grown.0
+    ∙ (ap (λ (l : List Node). front ++ n ∷ l) (append_assoc ns rest grown.0) ∙ sym (append_assoc front (n ∷ []) (ns ++ after))))) in
+    let all = steps facts from k ns before after next same (subst (Progress facts from next) (omega (arith, length-append front (n ∷ []))) one) in
     subst (λ (l : List Node). Progress facts from l (length front + length (n ∷ ns))) (sym (added-append found more (flat_map (names_of facts) ns)))
     (subst (Progress facts from (added next (flat_map (names_of facts) ns))) (omega (arith, length-append front (n ∷ []))) all)
 
@@ -118,13 +118,13 @@ pub level : (facts : List Fact) (from found : List Node) (at : ℕ) → AreKnown
     → Progress facts from (added found (flat_map (names_of facts) (drop at found))) (length found)
 level facts from found at k p =
     let front = take at found in
-    let behind = drop at found in
-    let whole : front ++ behind ≡ found = take-append-drop at found in
+    let after = drop at found in
+    let whole : front ++ after ≡ found = take-append-drop at found in
     let long : at ≡ length front = sym (length-take-le at found p.in_range) in
-    let same : found ≡ front ++ (behind ++ []) = sym (ap (λ (l : List Node). front ++ l) (append-nil behind) ∙ whole) in
-    let count : length front + length behind ≡ length found = omega (arith, ap (λ (l : List Node). length l) whole, length-append front behind) in
-    subst (Progress facts from (added found (flat_map (names_of facts) behind))) count
-    (steps facts from k behind front [] found same (subst (Progress facts from found) long p))
+    let same : found ≡ front ++ (after ++ []) = sym (ap (λ (l : List Node). front ++ l) (append-nil after) ∙ whole) in
+    let count : length front + length after ≡ length found = omega (arith, ap (λ (l : List Node). length l) whole, length-append front after) in
+    subst (Progress facts from (added found (flat_map (names_of facts) after))) count
+    (steps facts from k after front [] found same (subst (Progress facts from found) long p))
 
 -- ---- in order
 

@@ -1,12 +1,11 @@
 -- Where the fact of a node stands in a list of facts, and nodes in the order in which they are met.
 -- This project's rule.
-use Rattle.std.specs.Prelude.{◌≡◌, ℕ, Bool, ◌+◌, Option, None, Some, is_some, List, [], ◌∷◌, ◌++◌, if◌then◌else◌}
+use Rattle.std.specs.Prelude.{ℕ, Bool, ◌+◌, Option, None, Some, is_some, List, [], ◌∷◌, ◌++◌, if◌then◌else◌}
 use Rattle.std.specs.List.{list_any}
-use Rattle.indexmap.specs.IndexMap.{get}
 use Rattle.ut_logic.specs.declared.node.Node.{Node}
 use Rattle.ut_logic.specs.declared.facts.Fact.{Fact}
 use Rattle.ut_logic.specs.Node.{node_eq}
-use Rattle.model_slice.specs.declared.places.Places.{Places}
+use Rattle.model_slice.specs.Named.{first_of}
 
 -- the place of the first fact of n, where the list begins at place k
 abbrev pub place_from : ℕ → List Fact → Node → Option ℕ
@@ -15,11 +14,7 @@ place_from k (f ∷ fs) n = if node_eq f.node n then Some k else place_from (k +
 
 -- whether n has a fact
 abbrev pub has_fact : List Fact → Node → Bool
-has_fact facts n = is_some (place_from 0 facts n)
-
--- the places lead from each node to its fact, and from no other
-abbrev pub Finds : List Fact → Places → Type 0
-Finds facts places = (n : Node) → get node_eq places.map n ≡ place_from 0 facts n
+has_fact facts n = is_some (first_of facts n)
 
 -- whether the list has the node
 abbrev pub has : List Node → Node → Bool

@@ -1,4 +1,4 @@
 pub mod Closed
 pub mod Named
 pub mod Found
-pub mod Seen
+pub mod Met

@@ -1,15 +1,14 @@
 ghost use Rattle.std.specs.Prelude.{◌≡◌, map, IfOk};
-ghost use Rattle.std.specs.List.{flat_map};
 ghost use Rattle.std.specs.List.Sorted.{IsStrictlySortedBy};
 ghost use Rattle.ut_logic.specs.Node.{node_cmp};
 ghost use Rattle.model_slice.specs.Closed.{IsLeastClosed};
 ghost use Rattle.model_slice.specs.Named.{AreKnown, names_of};
-ghost use Rattle.model_slice.specs.Found.{Finds};
 
+use crate::find::{FindFact, names_in};
+use crate::indexed::IndexedFacts;
+use crate::met::{Met, add, add_each};
 use crate::nodes::Slice;
-use crate::places::Places;
-use crate::seen::{add, unseen};
-use indexmap::IndexSet;
+use crate::room::SymbolRoom;
 use std::alloc::{AllocError, Global};
 use ut_logic::{Facts, Node, Sequence};
 
@@ -22,25 +21,26 @@ pub fn slice(alloc: Global, facts: &Facts, roots: &[Node]) -> Result<Slice, Allo
     ensures least_closed { IfOk result (λ s. IsLeastClosed (names_of facts.now.list) roots.now s.nodes) }
     ensures sorted { IfOk result (λ s. IsStrictlySortedBy node_cmp s.nodes) }
 {
-    let places = Places::of(alloc, facts)?;
-    slice_with(alloc, facts, &places, roots)
+    let store = IndexedFacts::of(alloc, facts)?;
+    let mut room = SymbolRoom::new(alloc, facts.list.len())?;
+    slice_in(alloc, &store, &mut room, roots)
 }
 
-/// `slice` over facts whose places are known: it reads the facts of the nodes that it finds and no others,
-/// and has a mark of one byte for each fact.
-pub fn slice_with(
+/// `slice` over facts wherever they are kept, with room that the caller lends: it reads the facts of the nodes
+/// that it finds and no others, and takes memory for these nodes and for what they name.
+///
+/// With room for all symbols no symbol is searched for in a table; the answer is the same with any room.
+pub fn slice_in<S: FindFact>(
     alloc: Global,
-    facts: &Facts,
-    places: &Places,
+    store: &S,
+    room: &mut SymbolRoom,
     roots: &[Node],
 ) -> Result<Slice, AllocError>
-    requires known { AreKnown facts.now.list roots.now }
-    requires places { Finds facts.now.list places.now }
-    ensures least_closed { IfOk result (λ s. IsLeastClosed (names_of facts.now.list) roots.now s.nodes) }
+    requires { AreKnown (S.facts store.now) roots.now }
+    ensures least_closed { IfOk result (λ s. IsLeastClosed (names_of (S.facts store.now)) roots.now s.nodes) }
     ensures sorted { IfOk result (λ s. IsStrictlySortedBy node_cmp s.nodes) }
 {
-    let found = reached(alloc, facts, places, roots)?;
-    let mut nodes = Vec::from_slice(alloc, found.as_slice())?;
+    let mut nodes = reached(alloc, store, room, roots)?;
     nodes.sort_unstable();
     nodes.dedup();
     Ok(Slice {
@@ -50,68 +50,39 @@ pub fn slice_with(
 
 /// The nodes that are reached, each once, in the order in which they are met: the roots, then the nodes
 /// that these name, then those that these name, and so on.
-fn reached(
+fn reached<S: FindFact>(
     alloc: Global,
-    facts: &Facts,
-    places: &Places,
+    store: &S,
+    room: &mut SymbolRoom,
     roots: &[Node],
-) -> Result<IndexSet<Node>, AllocError>
-    requires known { AreKnown facts.now.list roots.now }
-    requires places { Finds facts.now.list places.now }
-    ensures { IfOk result (λ found. IsLeastClosed (names_of facts.now.list) roots.now found.keys) }
-{
-    let mut found = IndexSet::new(alloc);
-    let mut seen = unseen(alloc, facts.list.len())?;
-    add(&mut found, &mut seen, roots)?;
-    let mut at = 0;
-    while at < found.len() {
-        let met = found.len();
-        let named = named(alloc, facts, places, &found.as_slice()[at..])?;
-        add(&mut found, &mut seen, &named)?;
-        at = met;
-    }
-    Ok(found)
-}
-
-/// The nodes that the facts of these nodes name, in turn. Where these stand is looked up for all of them
-/// before the first is read, so that no look-up waits for what another one finds.
-fn named(
-    alloc: Global,
-    facts: &Facts,
-    places: &Places,
-    nodes: &[Node],
 ) -> Result<Vec<Node>, AllocError>
-    requires { Finds facts.now.list places.now }
-    ensures { IfOk result (λ v. v.items ≡ flat_map (names_of facts.now.list) nodes.now) }
+    requires { AreKnown (S.facts store.now) roots.now }
+    ensures { IfOk result (λ found. IsLeastClosed (names_of (S.facts store.now)) roots.now found.items) }
 {
-    let each = names_each(alloc, facts, places, nodes)?;
-    joined(alloc, &each)
+    let mut met = Met::new(alloc);
+    add(&mut met, room, roots)?;
+    let mut at = 0;
+    while at < met.nodes.len() {
+        let count = met.nodes.len();
+        let each = names_each(alloc, store, &met.nodes[at..])?;
+        add_each(&mut met, room, &each)?;
+        at = count;
+    }
+    Ok(met.into_nodes())
 }
 
-/// What the fact of each of the nodes names.
-fn names_each<'a>(
+/// What the fact of each of the nodes names. It is looked up for all of them before the first is read, so that
+/// no look-up waits for what another one finds.
+fn names_each<'a, S: FindFact>(
     alloc: Global,
-    facts: &'a Facts,
-    places: &Places,
+    store: &'a S,
     nodes: &[Node],
 ) -> Result<Vec<&'a [Node]>, AllocError>
-    requires { Finds facts.now.list places.now }
-    ensures { IfOk result (λ v. map (λ s. s.now) v.items ≡ map (names_of facts.now.list) nodes.now) }
+    ensures { IfOk result (λ v. map (λ s. s.now) v.items ≡ map (names_of (S.facts store.now)) nodes.now) }
 {
     let mut each = Vec::with_capacity(alloc, nodes.len())?;
     for node in nodes {
-        each.push(places.names(facts, *node))?;
+        each.push(names_in(store, *node))?;
     }
     Ok(each)
-}
-
-/// The nodes of all of the lists, in turn.
-fn joined(alloc: Global, each: &[&[Node]]) -> Result<Vec<Node>, AllocError>
-    ensures { IfOk result (λ v. v.items ≡ flat_map (λ s. s.now) each.now) }
-{
-    let mut all = Vec::new(alloc);
-    for nodes in each {
-        all.extend_from_slice(nodes)?;
-    }
-    Ok(all)
 }

@@ -1,4 +1,4 @@
-use crate::{Places, are_known, slice, slice_with};
+use crate::{IndexedFacts, SymbolRoom, are_known, slice, slice_in};
 use std::alloc::{AllocError, Global};
 use std::fmt::Write;
 use std::process::Abort;
@@ -82,25 +82,31 @@ fn facts(alloc: Global, lines: &str) -> Result<Facts, AllocError> {
 }
 
 /// The slice over the roots, or that a node has no fact.
-fn answer(alloc: Global, facts: &Facts, roots: &[Node]) -> Result<String, Fail> {
+fn answer(
+    alloc: Global,
+    facts: &Facts,
+    room: &mut SymbolRoom,
+    roots: &[Node],
+) -> Result<String, Fail> {
     if !are_known(alloc, facts, roots)? {
         return Ok(String::from_str(alloc, "a node without a fact")?);
     }
     let found = slice(alloc, facts, roots)?;
-    let places = Places::of(alloc, facts)?;
-    let again = slice_with(alloc, facts, &places, roots)?;
+    let store = IndexedFacts::of(alloc, facts)?;
+    let again = slice_in(alloc, &store, room, roots)?;
     if again.nodes.as_slice() != found.nodes.as_slice() {
-        return Err(Fail::from("another slice over the same places"));
+        return Err(Fail::from("another slice with lent room"));
     }
     Ok(words(alloc, found.nodes.as_slice())?)
 }
 
-/// Roots, and the slice over them.
+/// Roots, and the slice over them. The room has no place for symbols past 1, and keeps what the rows before noted.
 fn check(rt: &impl Abort, alloc: Global, lines: &str, rows: &str) -> Result<(), Fail> {
     let facts = facts(alloc, lines)?;
+    let mut room = SymbolRoom::new(alloc, 2)?;
     for row in rows.lines() {
         let (roots, want) = row.split_once(" => ").ok_or("a row")?;
-        let found = answer(alloc, &facts, &nodes(alloc, roots)?)?;
+        let found = answer(alloc, &facts, &mut room, &nodes(alloc, roots)?)?;
         assert!(rt; found.as_str() == want, "{row}: {found}");
     }
     Ok(())

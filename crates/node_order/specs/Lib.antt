@@ -7,3 +7,5 @@ pub mod Searching
 pub mod Walks
 pub mod Layers
 pub mod Returns
+pub mod Rising
+pub mod Leaving

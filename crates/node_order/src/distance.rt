@@ -25,7 +25,7 @@ pub fn distances(alloc: Global, graph: &Graph, start: u32) -> Result<Vec<Option<
 }
 
 /// `count` nodes without a distance.
-fn all_unknown(alloc: Global, count: u32) -> Result<Vec<Option<u32>>, AllocError>
+pub fn all_unknown(alloc: Global, count: u32) -> Result<Vec<Option<u32>>, AllocError>
     ensures { IfOk result (λ found. found.items ≡ replicate count None) }
 {
     let mut found = Vec::with_capacity(alloc, count as usize)?;
@@ -36,7 +36,7 @@ fn all_unknown(alloc: Global, count: u32) -> Result<Vec<Option<u32>>, AllocError
 }
 
 /// The next layer, `steps` away: the nodes that the layer refers to and that have no distance yet.
-fn next_layer(
+pub fn next_layer(
     alloc: Global,
     graph: &Graph,
     found: &mut Vec<Option<u32>>,
@@ -71,7 +71,7 @@ fn add_new(
 }
 
 /// Sets the distance of the node if it has none.
-fn add_one(
+pub fn add_one(
     found: &mut Vec<Option<u32>>,
     next: &mut Vec<u32>,
     node: u32,

@@ -6,6 +6,8 @@ ghost use Rattle.node_order.specs.Walks.{HasCycle, IsFirstOnCycle, IsOnCycle};
 use crate::distance::distances;
 use crate::graph::Graph;
 use crate::nearest::nearest;
+use crate::parts::part_numbers;
+use crate::rising::{never_fall, rises_from};
 use crate::search::Mark;
 use std::alloc::{AllocError, Global};
 
@@ -32,8 +34,8 @@ fn lies_on_cycle(alloc: Global, graph: &Graph, back: &Graph, node: u32) -> Resul
     }
 }
 
-/// The least node that lies on a cycle, in a graph that has one. No node that is marked as done lies on a
-/// cycle. Each of the others is tried in turn.
+/// The least node that lies on a cycle, in a graph that has one. No node that is marked as done lies on a cycle, nor
+/// does one whose part refers to other parts alone. Of the others each is tried in turn, and the first lies on one.
 pub fn first_on_cycle(
     alloc: Global,
     graph: &Graph,
@@ -46,8 +48,13 @@ pub fn first_on_cycle(
     requires done { AreOffCycles graph.now marks.now }
     ensures { IfOk result (IsFirstOnCycle graph.now) }
 {
+    let numbers = part_numbers(alloc, graph, back)?;
+    let never_falls = never_fall(graph, numbers.as_slice());
     for node in 0..graph.len() {
         if is_done(marks[node as usize]) {
+            continue;
+        }
+        if never_falls && rises_from(graph, numbers.as_slice(), node) {
             continue;
         }
         if lies_on_cycle(alloc, graph, back, node)? {

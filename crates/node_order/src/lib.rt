@@ -14,9 +14,12 @@ mod cycle;
 mod distance;
 mod first_on_cycle;
 mod graph;
+mod leaving;
 mod nearest;
 mod order;
+mod parts;
 mod reversed;
+mod rising;
 mod search;
 #[cfg(test)]
 mod tests;

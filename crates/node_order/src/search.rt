@@ -39,7 +39,7 @@ pub struct Search {
 }
 
 /// `count` marks of new nodes.
-fn new_marks(alloc: Global, count: u32) -> Result<Vec<Mark>, AllocError>
+pub fn new_marks(alloc: Global, count: u32) -> Result<Vec<Mark>, AllocError>
     ensures { IfOk result (λ marks. marks.items ≡ replicate count Mark.New) }
 {
     let mut marks = Vec::with_capacity(alloc, count as usize)?;

@@ -45,3 +45,27 @@ fn the_first_cycle_is_the_least_of_the_shortest(rt: HostRuntime) -> Result<(), A
     }
     Ok(())
 }
+
+/// A chain of `count` nodes, each of which refers to the next, and the last to itself.
+fn chain_of(alloc: Global, count: u32) -> Result<Graph, AllocError> {
+    let mut graph = Graph::new(alloc, count)?;
+    for node in 0..count {
+        let to = if node < count - 1 { node + 1 } else { node };
+        if node < graph.len() && to < graph.len() {
+            graph.add(node, to)?;
+        }
+    }
+    Ok(graph)
+}
+
+/// One search for each node of the chain would take more than the time of a test.
+#[test]
+fn a_cycle_at_the_end_of_a_long_chain(rt: HostRuntime) -> Result<(), AllocError> {
+    let graph = chain_of(rt.alloc(), 65536)?;
+    match ordered(rt.alloc(), &graph) {
+        Err(GraphBad::Cycle(nodes)) => assert_eq!(rt; nodes.as_slice(), [65535, 65535].as_slice()),
+        Err(GraphBad::Oom) => panic!(rt; "out of memory"),
+        Ok(_) => panic!(rt; "the graph has a cycle"),
+    }
+    Ok(())
+}

@@ -1,17 +1,11 @@
-//! What tests share: tables of rows in one text, files in memory, and trees of Kconfig texts.
+//! What tests share: trees of Kconfig texts.
 //!
-//! A table is one literal, and its rows are taken apart while the test runs, so that the proof of a test does not grow
-//! with its rows. How a row is written is this project's rule. A contract sees nothing of it.
+//! Tables of rows and files in memory are those of `test_rows`. A contract sees nothing of what stands here.
 //!
-//! The promise to the crates above: none. What stands in a table is shown by the calls that the tests make.
+//! The promise to the crates above: none. What is read is shown by the calls that the tests make.
 #![tactic(auto)]
 
-mod escapes;
-mod files;
-mod rows;
 mod trees;
 
-pub use escapes::unescaped;
-pub use files::files_of;
-pub use rows::{check_blocks, check_lines};
-pub use trees::{build, entries_of, tree_of};
+pub use test_rows::{check_blocks, check_lines, files_of, unescaped};
+pub use trees::{build, entries_of, imply_tree_of, tree_of, tristate_tree_of};

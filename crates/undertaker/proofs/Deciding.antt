@@ -8,9 +8,9 @@ use Rattle.cpp_blocks.specs.Run.{is_defined}
 use Rattle.kconf_tree.specs.Shape.{Shape, number_of}
 use Rattle.kconf_tree.specs.Value.{Configuration}
 use Rattle.kconf_tree.specs.Valid.{KeepsRules}
-use Rattle.ut_verdict.specs.declared.question.Family.{Family}
-use Rattle.ut_verdict.specs.declared.question.Family.TheVariants as family
-use Rattle.ut_verdict.specs.On.{Case, Environment, config_name, start_by, macro_start}
+use Rattle.ut_case.specs.declared.question.Family.{Family}
+use Rattle.ut_case.specs.declared.question.Family.TheVariants as family
+use Rattle.undertaker.specs.On.{Case, Environment, config_name, start_by, macro_start}
 use Rattle.undertaker.specs.declared.wishes.Meaning.{Meaning}
 use Rattle.undertaker.specs.declared.wishes.Meaning.TheVariants.{Free, Symbol, Module, Undeclared}
 use Rattle.undertaker.specs.declared.wishes.Wish.{Wish}
@@ -267,7 +267,7 @@ module _ (t : Shape) (g : Graph) (shows : Shows t g) (macros : List (List ℕ)) 
         by w a (Symbol k) e = back w (Symbol k) e (hit w.defined k (declared (macro_of macros w) k (of.meanings w a ∙ e)) (agreed w a (Symbol k) e))
           where
             in_names : (name : List ℕ) (o : Option ℕ) (k : ℕ) → number_of t name ≡ o → meaning_in t name o ≡ Symbol k → k < length g.names
-            in_names name None k f i = absurd (module_or (Rattle.std.specs.Option.is_some (Rattle.ut_verdict.specs.On.module_of t name)) i)
+            in_names name None k f i = absurd (module_or (Rattle.std.specs.Option.is_some (Rattle.undertaker.specs.On.module_of t name)) i)
               where
                 module_or : (b : Bool) → cond b Module Undeclared ≡ Symbol k → ⊥
                 module_or true j = absurd (cc)

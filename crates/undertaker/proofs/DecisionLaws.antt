@@ -7,9 +7,9 @@ use Rattle.std.specs.Option.{option_and_then, is_some}
 use Rattle.ut_text.specs.Text.{text_eq}
 use Rattle.cpp_directives.specs.declared.directive.Directive.{Directive}
 use Rattle.kconf_tree.specs.Shape.{Shape}
-use Rattle.ut_verdict.specs.declared.word.Word.{Word}
-use Rattle.ut_verdict.specs.On.{config_name, module_name, module_of}
-use Rattle.ut_report.specs.Report.{AreWords}
+use Rattle.ut_case.specs.declared.word.Word.{Word}
+use Rattle.undertaker.specs.On.{config_name, module_name, module_of}
+use Rattle.undertaker.specs.Report.{AreWords}
 use Rattle.undertaker.specs.declared.wishes.Meaning.{Meaning}
 use Rattle.undertaker.specs.declared.wishes.Meaning.TheVariants.{Module, Undeclared}
 use Rattle.undertaker.specs.declared.wishes.Wish.{Wish}

@@ -21,11 +21,11 @@ use Rattle.undertaker.specs.FirstKconfig.Form.{is_declared}
 use Rattle.kconf_entries.specs.Joined.{all_of_names}
 use Rattle.kconf_tree.specs.declared.shape.Symbol.{Symbol}
 use Rattle.kconf_tree.specs.declared.shape.Counts.TheVariants as counts
-use Rattle.kconf_tree.specs.Shape.{Shape, symbol_at, no_symbol, number_of, counts_as, counts_with, is_member, is_the, selects_from}
+use Rattle.kconf_tree.specs.Shape.{Shape, symbol_at, no_symbol, number_of, counts_as, counts_with, is_member, is_the, selects_from, implies_from}
 use Rattle.kconf_tree.specs.Gathered.{once, entries_named, symbol_of, symbols_of, choices_from, gathered}
 use Rattle.kconf_tree.specs.declared.place.Place.TheVariants.{Condition}
 use Rattle.kconf_tree.specs.Value.{Configuration, value_of, value_step, least, greatest, stands_for, named, name_value, is_text_or_number}
-use Rattle.kconf_tree.specs.Properties.{visibility_of, reverse_of, default_of, selected_by, first_default}
+use Rattle.kconf_tree.specs.Properties.{visibility_of, reverse_of, direct_of, weakened, default_of, selected_by, first_default}
 use Rattle.undertaker.specs.Dependencies.{Graph, needs_at, names_in, name_at, numbers_of, declared_in, graph_of}
 use Rattle.undertaker.specs.FirstEntries.{AreFirst}
 use Rattle.undertaker.specs.Wishes.{Among}
@@ -213,6 +213,10 @@ no_selects : (name : List ℕ) (es : List ConfigEntry) → ((e : ConfigEntry) �
 no_selects name [] h j = refl
 no_selects name (e ∷ es) h j = rw (h e (inl refl)) (no_selects name es (λ x m. h x (inr m)) (suc j))
 
+no_implies : (name : List ℕ) (es : List ConfigEntry) → ((e : ConfigEntry) → Among e es → (alone e).implies ≡ []) → (j : ℕ) → implies_from name j (map alone es) ≡ []
+no_implies name [] h j = refl
+no_implies name (e ∷ es) h j = rw (h e (inl refl)) (no_implies name es (λ x m. h x (inr m)) (suc j))
+
 module _ (x : Entries) (first : AreFirst [] x.configs) (no_choices : x.choices ≡ []) where
   abbrev es : List ConfigEntry
   es = x.configs
@@ -288,7 +292,10 @@ module _ (x : Entries) (first : AreFirst [] x.configs) (no_choices : x.choices �
       ∙ ap (λ ss. greatest (map (selected_by t c) ss)) (no_selects (symbol_at t k).name es (as_entry (λ e. (alone e).selects ≡ []) (λ name needs. refl)) 0)
 
   default : (c : Configuration) (k : ℕ) → k < length g.names → default_of t c k ≡ 0
-  default c k lt = at_symbol (λ s. first_default t c s.defaults ≡ 0) refl (as_entry (λ e. first_default t c (alone e).defaults ≡ 0) (λ name needs. refl)) k
+  default c k lt = let implied = ap (λ ss. greatest (map (selected_by t c) (implies_from (symbol_at t k).name 0 ss))) symbols
+      ∙ ap (λ ss. greatest (map (selected_by t c) ss)) (no_implies (symbol_at t k).name es (as_entry (λ e. (alone e).implies ≡ []) (λ name needs. refl)) 0) in
+      let own : first_default t c (symbol_at t k).defaults ≡ 0 = at_symbol (λ s. first_default t c s.defaults ≡ 0) refl (as_entry (λ e. first_default t c (alone e).defaults ≡ 0) (λ name needs. refl)) k in
+      λ z. weakened (implied z) (direct_of t c k) (own z)
 
   pub tree_shows : Shows t g
   tree_shows = record {

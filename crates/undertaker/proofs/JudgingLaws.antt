@@ -6,9 +6,9 @@ use Rattle.std.specs.List.{list_any, list_all, All}
 use Rattle.kconf_tree.specs.Shape.{Shape}
 use Rattle.kconf_tree.specs.Value.{Configuration}
 use Rattle.kconf_tree.specs.Valid.{KeepsRules, IsValid}
-use Rattle.ut_verdict.specs.declared.question.Family.TheVariants as family
-use Rattle.ut_verdict.specs.declared.question.Class.TheVariants as class
-use Rattle.ut_verdict.specs.On.{Case, start_by, config_name}
+use Rattle.ut_case.specs.declared.question.Family.TheVariants as family
+use Rattle.ut_case.specs.declared.question.Class.TheVariants as class
+use Rattle.undertaker.specs.On.{Case, start_by, config_name}
 use Rattle.undertaker.specs.declared.wishes.Wish.{Wish}
 use Rattle.undertaker.specs.declared.wishes.Meaning.{Meaning}
 use Rattle.undertaker.specs.declared.wishes.Meaning.TheVariants.{Free, Symbol, Module, Undeclared}
@@ -16,7 +16,7 @@ use Rattle.undertaker.specs.Dependencies.{Graph, IsLeastClosed, is_among}
 use Rattle.undertaker.specs.FirstTrees.{Shows}
 use Rattle.undertaker.specs.Marks.{is_marked, Marked}
 use Rattle.ut_text.specs.Text.{text_eq}
-use Rattle.ut_verdict.specs.declared.word.Word.{Word}
+use Rattle.ut_case.specs.declared.word.Word.{Word}
 use Rattle.undertaker.specs.declared.steps.Step.{Step}
 use Rattle.undertaker.specs.declared.steps.Step.TheVariants.{Opens, Closes}
 use Rattle.undertaker.specs.Steps.{behind, path_behind, asked_from, wishes_in}

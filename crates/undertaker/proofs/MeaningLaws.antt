@@ -10,7 +10,7 @@ use Rattle.cpp_blocks.specs.Run.{is_defined}
 use Rattle.kconf_tree.specs.Shape.{Shape, number_of}
 use Rattle.kconf_tree.specs.Value.{Configuration, own_value, stands_for}
 use Rattle.kconf_tree.specs.Valid.{KeepsRules}
-use Rattle.ut_verdict.specs.On.{Case, config_name, module_name, module_of, has_value, is_written_one, truth_state, start_by}
+use Rattle.undertaker.specs.On.{Case, config_name, module_name, module_of, has_value, is_written_one, truth_state, start_by}
 use Rattle.undertaker.specs.declared.wishes.Meaning.{Meaning}
 use Rattle.undertaker.specs.declared.wishes.Meaning.TheVariants.{Free, Symbol, Module, Undeclared}
 use Rattle.undertaker.specs.Dependencies.{Graph}

@@ -7,18 +7,18 @@ use Rattle.cpp_blocks.specs.Run.{is_defined, run_of}
 use Rattle.cpp_blocks.specs.Blocks.{parents_of, parent_of}
 use Rattle.kconf_tree.specs.Shape.{Shape}
 use Rattle.kconf_tree.specs.Valid.{IsValid}
-use Rattle.ut_verdict.specs.declared.question.Family.{Family}
-use Rattle.ut_verdict.specs.declared.question.Family.TheVariants as family
-use Rattle.ut_verdict.specs.declared.question.Ask.{Ask}
-use Rattle.ut_verdict.specs.declared.question.Ask.TheVariants.{Selected, Dropped}
-use Rattle.ut_verdict.specs.declared.question.Class.{Class}
-use Rattle.ut_verdict.specs.declared.question.Class.TheVariants as class
-use Rattle.ut_verdict.specs.declared.word.Word.{Word}
-use Rattle.ut_verdict.specs.declared.word.Word.TheVariants.{Dead, Undead, Live, Undecided}
-use Rattle.ut_verdict.specs.On.{Case, macro_start, start_of, is_on}
-use Rattle.ut_verdict.specs.Classes.{meets, CanBe, CanNotBe, HasClass}
-use Rattle.ut_verdict.specs.Verdicts.{IsWordOf}
-use Rattle.ut_report.specs.Report.{AreWords}
+use Rattle.ut_case.specs.declared.question.Family.{Family}
+use Rattle.ut_case.specs.declared.question.Family.TheVariants as family
+use Rattle.ut_case.specs.declared.question.Ask.{Ask}
+use Rattle.ut_case.specs.declared.question.Ask.TheVariants.{Selected, Dropped}
+use Rattle.ut_case.specs.declared.question.Class.{Class}
+use Rattle.ut_case.specs.declared.question.Class.TheVariants as class
+use Rattle.ut_case.specs.declared.word.Word.{Word}
+use Rattle.ut_case.specs.declared.word.Word.TheVariants.{Dead, Undead, Live, Undecided}
+use Rattle.undertaker.specs.On.{Case, macro_start, start_of, is_on}
+use Rattle.undertaker.specs.Classes.{meets, CanBe, CanNotBe, HasClass}
+use Rattle.undertaker.specs.Verdicts.{IsWordOf}
+use Rattle.undertaker.specs.Report.{AreWords}
 use Rattle.undertaker.specs.declared.wishes.Wish.{Wish}
 use Rattle.undertaker.specs.declared.steps.Step.{Step}
 use Rattle.undertaker.specs.declared.steps.Step.TheVariants.{Opens, Closes}

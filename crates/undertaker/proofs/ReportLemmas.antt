@@ -14,8 +14,8 @@ use Rattle.undertaker.specs.declared.first_bad.FirstBad.{FirstBad}
 use Rattle.undertaker.specs.declared.first_bad.FirstBad.TheVariants.{NotYet}
 use Rattle.kconf_tree.specs.Shape.{Shape}
 use Rattle.kconf_tree.specs.Gathered.{gathered}
-use Rattle.ut_verdict.specs.declared.word.Word.{Word}
-use Rattle.ut_report.specs.Report.{Words, AreWords}
+use Rattle.ut_case.specs.declared.word.Word.{Word}
+use Rattle.undertaker.specs.Report.{Words, AreWords}
 use Rattle.undertaker.specs.Words.{names_in}
 use Rattle.undertaker.specs.Lines.{ended, lines_on}
 use Rattle.ut_text.specs.Results.{◌>>=◌}

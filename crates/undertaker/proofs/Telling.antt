@@ -9,7 +9,7 @@ use Rattle.undertaker.specs.FirstKconfig.Form.{first_tree_of}
 use Rattle.undertaker.proofs.FirstKconfig.BadLineLemmas as first_kconfig
 use Rattle.undertaker.specs.FirstSource.Form.{first_directives_of}
 use Rattle.undertaker.proofs.FirstSource.BadLineLemmas as first_source
-use Rattle.ut_verdict.specs.Verdicts.{IsDead, IsUndead}
+use Rattle.undertaker.specs.Verdicts.{IsDead, IsUndead}
 use Rattle.ut_text.specs.Results.{◌>>=◌}
 use Rattle.undertaker.specs.Outcome.{limit, taken, named, outcome_for, outcome_of}
 use Rattle.undertaker.specs.Words.{names_in}

@@ -5,7 +5,7 @@ use Rattle.std.specs.List.{starts_with, ends_with}
 use Rattle.std.specs.Option.{option_map, MatchOption}
 use Rattle.std.specs.Str.Pattern.{FindsTextSuffix, StripsSuffix}
 use Rattle.ut_text.specs.Text.{text_eq, text_eq-exact}
-use Rattle.ut_verdict.specs.On.{config_name}
+use Rattle.undertaker.specs.On.{config_name}
 
 -- a text is itself
 pub same_text : (x : List ℕ) → text_eq x x ≡ true

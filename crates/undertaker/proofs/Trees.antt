@@ -64,11 +64,16 @@ module _ (t : Shape) (g : Graph) (shows : Shows t g) where
 
   pub set_keeps_rules : (s : ℕ → Bool) (undeclared : List ℕ → Bool) → IsClosed g s → KeepsRules t (in_set s undeclared)
   set_keeps_rules s undeclared closed = record {
+    values = λ k lt. small (s k);
     setting = λ k. cond (s k) (Some 2) None;
     calculated = record { gives = λ k lt own. at k (rw (sym shows.count) lt) (s k) refl };
     choices = λ i lt. absurd (no_place i (subst (λ cs. i < length cs) shows.no_choice lt));
   }
     where
+      small : (b : Bool) → cond b 2 0 ≤ 2
+      small true = omega arith
+      small false = omega arith
+
       no_place : (i : ℕ) → i < 0 → ⊥
       no_place i h = omega arith
 

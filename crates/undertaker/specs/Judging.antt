@@ -2,14 +2,14 @@
 -- and the word on a block, from the answers on its selection and on its dropping.
 use Rattle.std.specs.Prelude.{◌≡◌, ℕ, true, false, List, [], ◌∷◌, ◌++◌, Option, None, Some}
 use Rattle.kconf_tree.specs.Shape.{Shape}
-use Rattle.ut_verdict.specs.declared.question.Family.{Family}
-use Rattle.ut_verdict.specs.declared.question.Family.TheVariants as family
-use Rattle.ut_verdict.specs.declared.question.Class.{Class}
-use Rattle.ut_verdict.specs.declared.question.Class.TheVariants as class
-use Rattle.ut_verdict.specs.declared.word.Word.{Word}
-use Rattle.ut_verdict.specs.declared.word.Word.TheVariants.{Dead, Undead, Live}
-use Rattle.ut_verdict.specs.On.{Case, macro_start}
-use Rattle.ut_verdict.specs.Classes.{IsCaseOf}
+use Rattle.ut_case.specs.declared.question.Family.{Family}
+use Rattle.ut_case.specs.declared.question.Family.TheVariants as family
+use Rattle.ut_case.specs.declared.question.Class.{Class}
+use Rattle.ut_case.specs.declared.question.Class.TheVariants as class
+use Rattle.ut_case.specs.declared.word.Word.{Word}
+use Rattle.ut_case.specs.declared.word.Word.TheVariants.{Dead, Undead, Live}
+use Rattle.undertaker.specs.On.{Case, macro_start}
+use Rattle.undertaker.specs.Classes.{IsCaseOf}
 use Rattle.undertaker.specs.declared.wishes.Wish.{Wish}
 use Rattle.undertaker.specs.declared.steps.Step.{Step}
 use Rattle.undertaker.specs.declared.steps.Step.TheVariants.{Opens, Closes}

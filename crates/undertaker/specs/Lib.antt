@@ -1,6 +1,11 @@
 -- the first forms of texts
 pub mod FirstKconfig
 pub mod FirstSource
+-- what a verdict is, for one tree and one source
+pub mod On
+pub mod Classes
+pub mod Verdicts
+pub mod Report
 -- a run
 pub mod Status
 pub mod Words

@@ -1,8 +1,8 @@
 -- Lines of output, each with its newline. This project's rule.
 use Rattle.std.specs.Prelude.{List, [], ◌∷◌, ◌++◌, map}
 use Rattle.ut_text.specs.Bytes.{Bytes}
-use Rattle.ut_verdict.specs.declared.word.Word.{Word}
-use Rattle.ut_report.specs.Report.{Words, report_lines}
+use Rattle.ut_case.specs.declared.word.Word.{Word}
+use Rattle.undertaker.specs.Report.{Words, report_lines}
 
 -- a line with its newline
 abbrev pub ended : Bytes → Bytes

@@ -1,7 +1,7 @@
 -- What the name of a macro means where bool symbols of these names are declared.
 use Rattle.std.specs.Prelude.{ℕ, Bool, List, Option, None, Some, if◌then◌else◌, is_some}
 use Rattle.std.specs.Option.{option_and_then}
-use Rattle.ut_verdict.specs.On.{config_name, module_name}
+use Rattle.undertaker.specs.On.{config_name, module_name}
 use Rattle.undertaker.specs.declared.wishes.Meaning.{Meaning}
 use Rattle.undertaker.specs.declared.wishes.Meaning.TheVariants.{Free, Symbol, Module, Undeclared}
 use Rattle.undertaker.specs.Names.{number_among}

@@ -9,11 +9,11 @@ use Rattle.cpp_directives.specs.declared.directive.Directive.{Directive}
 use Rattle.cpp_blocks.specs.Blocks.{parent_of}
 use Rattle.kconf_tree.specs.Shape.{Shape}
 use Rattle.kconf_tree.specs.Valid.{IsValid}
-use Rattle.ut_verdict.specs.declared.question.Class.{Class}
-use Rattle.ut_verdict.specs.declared.question.Family.TheVariants as family
-use Rattle.ut_verdict.specs.declared.word.Word.TheVariants.{Dead, Undead, Live}
-use Rattle.ut_verdict.specs.On.{Case, is_on}
-use Rattle.ut_verdict.specs.Verdicts.{IsDead, IsUndead, IsWordOf}
+use Rattle.ut_case.specs.declared.question.Class.{Class}
+use Rattle.ut_case.specs.declared.question.Family.TheVariants as family
+use Rattle.ut_case.specs.declared.word.Word.TheVariants.{Dead, Undead, Live}
+use Rattle.undertaker.specs.On.{Case, is_on}
+use Rattle.undertaker.specs.Verdicts.{IsDead, IsUndead, IsWordOf}
 use Rattle.undertaker.specs.FirstKconfig.BadLine as kconfig
 use Rattle.undertaker.specs.FirstSource.BadLine as source
 use Rattle.undertaker.specs.Outcome.{Refusal, refused, usage, missing, limit, Texts}

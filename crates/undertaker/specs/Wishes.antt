@@ -4,7 +4,7 @@ use Rattle.std.specs.List.{list_any, list_all}
 use Rattle.kconf_tree.specs.Shape.{Shape, number_of}
 use Rattle.cpp_blocks.specs.declared.state.MacroState.{MacroState}
 use Rattle.cpp_blocks.specs.Run.{is_defined}
-use Rattle.ut_verdict.specs.On.{config_name, module_of}
+use Rattle.undertaker.specs.On.{config_name, module_of}
 use Rattle.undertaker.specs.declared.wishes.Meaning.{Meaning}
 use Rattle.undertaker.specs.declared.wishes.Meaning.TheVariants.{Free, Symbol, Module, Undeclared}
 use Rattle.undertaker.specs.declared.wishes.Wish.{Wish}

@@ -5,10 +5,11 @@ use Rattle.ut_text.specs.Bytes.{Bytes}
 use Rattle.cpp_directives.specs.declared.directive.Directive.{Directive}
 use Rattle.kconf_tree.specs.Shape.{Shape}
 use Rattle.kconf_tree.specs.Gathered.{gathered}
-use Rattle.ut_verdict.specs.declared.question.Family.{Family}
-use Rattle.ut_verdict.specs.declared.question.Ask.{Ask}
-use Rattle.ut_verdict.specs.declared.word.Word.{Word}
-use Rattle.ut_report.specs.Report.{AreWords, IsReport, text_of, total_line, totals_of}
+use Rattle.ut_case.specs.declared.question.Family.{Family}
+use Rattle.ut_case.specs.declared.question.Ask.{Ask}
+use Rattle.ut_case.specs.declared.word.Word.{Word}
+use Rattle.ut_report.specs.Lines.{text_of, total_line, totals_of}
+use Rattle.undertaker.specs.Report.{AreWords, IsReport}
 use Rattle.undertaker.specs.Lines.{ended, lines_on}
 use Rattle.undertaker.specs.Outcome.{Texts}
 

@@ -1,6 +1,6 @@
 ghost use Rattle.std.specs.Prelude.{IfOk, false};
 ghost use Rattle.kconf_tree.specs.Gathered.{gathered};
-ghost use Rattle.ut_report.specs.Report.{AreWords};
+ghost use Rattle.undertaker.specs.Report.{AreWords};
 ghost use Rattle.undertaker.specs.FirstEntries.{IsFirstTree};
 ghost use Rattle.undertaker.specs.Plain.{IsFirstSource};
 
@@ -10,7 +10,7 @@ use crate::steps::steps_of;
 use cpp_directives::Directive;
 use kconf_entries::Entries;
 use std::alloc::{AllocError, Global};
-use ut_verdict::Word;
+use ut_case::Word;
 
 /// The word on each block in order, for texts of the first form.
 ///

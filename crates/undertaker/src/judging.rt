@@ -14,7 +14,7 @@ use crate::path::Path;
 use crate::steps::Step;
 use crate::wishes::Wish;
 use std::alloc::{AllocError, Global};
-use ut_verdict::{Class, Word};
+use ut_case::{Class, Word};
 
 /// Whether the wanted symbols need one that a wish asks not to be there.
 fn is_hit(

@@ -1,5 +1,5 @@
 ghost use Rattle.std.specs.Prelude.{◌≡◌, option_map, IfOk};
-ghost use Rattle.ut_verdict.specs.On.{config_name, module_name};
+ghost use Rattle.undertaker.specs.On.{config_name, module_name};
 ghost use Rattle.undertaker.specs.Meanings.{meaning_under, config_meaning_under, is_module_under};
 
 use crate::dependencies::Dependencies;

@@ -1,6 +1,6 @@
 ghost use Rattle.std.specs.Prelude.{◌≡◌, ◌+◌, ◌++◌, IfOk, OnOk, decimal, map};
-ghost use Rattle.ut_report.specs.Report.{ask_text, block_line, class_text, steps_text, word_text};
-ghost use Rattle.ut_report.specs.Report as spec;
+ghost use Rattle.ut_report.specs.Lines.{ask_text, block_line, class_text, steps_text, word_text};
+ghost use Rattle.undertaker.specs.Report as spec;
 ghost use Rattle.undertaker.specs.Lines.{ended, lines_on};
 ghost use Rattle.undertaker.specs.Written as written;
 
@@ -9,7 +9,7 @@ use crate::totals::Totals;
 use itoa::Buffer;
 use std::alloc::{AllocError, Global};
 use ut_base::Name;
-use ut_verdict::{Ask, Class, Word};
+use ut_case::{Ask, Class, Word};
 
 /// No question of the first form is given a budget, and none is left undecided.
 const STEPS: u64 = 0;

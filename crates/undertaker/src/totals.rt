@@ -1,12 +1,12 @@
 ghost use Rattle.std.specs.Prelude.{◌≡◌, ◌<◌, ◌-◌, ◌^◌, IfOk};
-ghost use Rattle.ut_report.specs.Report.{counted, total_line, totals_of};
+ghost use Rattle.ut_report.specs.Lines.{counted, total_line, totals_of};
 ghost use Rattle.undertaker.specs.Lines.{ended};
 
 use crate::lines::Line;
 use crate::report::add_count;
 use std::alloc::{AllocError, Global};
 use std::marker::Model;
-use ut_verdict::Word;
+use ut_case::Word;
 
 /// How many blocks there are, and how many of each word.
 #[derive(Drop)]
@@ -20,7 +20,7 @@ pub(crate) struct Totals {
 
 impl Model for Totals {
     ghost use Rattle.std.specs.Prelude.{◌≤◌};
-    ghost use Rattle.ut_report.specs.Report as spec;
+    ghost use Rattle.ut_report.specs.Lines as spec;
 
     ghost Value = { spec.Totals };
 

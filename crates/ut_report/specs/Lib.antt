@@ -1,1 +1,4 @@
+pub mod Lines
+pub mod Groups
+pub mod Evidence
 pub mod Report

@@ -1,158 +1,119 @@
--- The report of a dead run: for each source in order either the one line that says why it is refused, or
--- one line for each block in order; and last the total line.
--- Rule: this project's own; the words are those of the tools of the EuroSys 2011 paper on Undertaker.
-use Rattle.std.specs.Prelude.{◌≡◌, ℕ, ◌<◌, Bool, List, [], ◌∷◌, ◌++◌, suc, Result, Ok, Err, map, length, get_or, codes, decimal}
-use Rattle.std.specs.List.{flat_map, concat}
+-- The report of a dead run: for each source in order either the one line that says why it is refused, or for each block in
+-- order its line and what stands under it; and last the total line. `steps` is the budget of each question of the run.
+-- Rule: this project's own.
+use Rattle.std.specs.Prelude.{◌≡◌, ℕ, ◌<◌, Bool, List, [], ◌∷◌, ◌++◌, suc, Result, Ok, Err, map, length, get_or}
+use Rattle.std.specs.List.{flat_map}
 use Rattle.ut_text.specs.Bytes.{Bytes}
 use Rattle.cpp_directives.specs.declared.directive.Directive.{Directive}
 use Rattle.cpp_directives.specs.declared.bad.CppBad.{CppBad}
-use Rattle.cpp_directives.specs.declared.bad.CppBad.TheVariants as bad
 use Rattle.cpp_blocks.specs.Blocks.{count_of}
-use Rattle.kconf_tree.specs.Shape.{Shape}
-use Rattle.ut_verdict.specs.declared.question.Family.{Family}
-use Rattle.ut_verdict.specs.declared.question.Ask.{Ask}
-use Rattle.ut_verdict.specs.declared.question.Ask.TheVariants.{Selected, Dropped}
-use Rattle.ut_verdict.specs.declared.question.Class.{Class}
-use Rattle.ut_verdict.specs.declared.question.Class.TheVariants as class
-use Rattle.ut_verdict.specs.declared.word.Word.{Word}
-use Rattle.ut_verdict.specs.declared.word.Word.TheVariants.{Dead, Undead, Live, Undecided}
-use Rattle.ut_verdict.specs.Verdicts.{IsWordOf}
+use Rattle.ut_case.specs.declared.question.Ask.{Ask}
+use Rattle.ut_case.specs.declared.question.BlockId.{BlockId}
+use Rattle.ut_case.specs.declared.question.Family.{Family}
+use Rattle.ut_case.specs.declared.word.Word.{Word}
+use Rattle.ut_case.specs.declared.word.Word.TheVariants.{Live}
+use Rattle.ut_case.specs.Problem.{Source, Problem}
+use Rattle.ut_case.specs.Words.{IsWordOf, IsWordAt, AreSpent}
+use Rattle.ut_report.specs.Evidence.{AreFurther}
+use Rattle.ut_report.specs.Lines.{block_line, refused_line, totals_of, total_line, text_of}
 
--- ---- lines, without their newlines; `steps` is the budget of the run
+-- ---- what a report says
 
--- the word of a class
-abbrev pub class_text : Class → Bytes
-class_text class.Code = codes "code"
-class_text class.Kconfig = codes "kconfig"
-class_text class.Missing = codes "missing"
-class_text (class.Unclassified steps) = codes "unclassified"
+-- of a block: its word, and the lines under its line
+pub record BlockSaid : Type 0 where
+  pub word : Word
+  pub under : List Bytes
 
--- after an unclassified line stand a space and the steps
-abbrev pub steps_text : Class → Bytes
-steps_text (class.Unclassified steps) = codes " " ++ decimal steps
-steps_text c = []
+-- the block that is read past the last one
+abbrev pub nothing_said : BlockSaid
+nothing_said = record { word = Live; under = [] }
 
--- the word of what was asked
-abbrev pub ask_text : Ask → Bytes
-ask_text Selected = codes "selected"
-ask_text Dropped = codes "dropped"
-
--- what a line says of a block
-abbrev pub word_text : ℕ → Word → Bytes
-word_text steps (Dead class) = class_text class ++ codes ".globally.dead" ++ steps_text class
-word_text steps (Undead class) = class_text class ++ codes ".globally.undead" ++ steps_text class
-word_text steps Live = codes "live"
-word_text steps (Undecided ask) = codes "undecided " ++ ask_text ask ++ codes " " ++ decimal steps
-
--- the line of one block
-abbrev pub block_line : Bytes → ℕ → ℕ → Word → Bytes
-block_line name steps block word = name ++ codes ".B" ++ decimal block ++ codes "." ++ word_text steps word
-
--- the kind and the line of a refusal
-abbrev pub refusal_of : CppBad → Bytes × ℕ
-refusal_of (bad.NotYet line) = (codes "notyet", line)
-refusal_of (bad.Unbalanced line) = (codes "unbalanced", line)
-refusal_of (bad.ElseTwice line) = (codes "else", line)
-refusal_of (bad.Depth line) = (codes "depth", line)
-refusal_of (bad.TooMany line) = (codes "many", line)
-refusal_of (bad.NoName line) = (codes "name", line)
-refusal_of (bad.Condition line) = (codes "condition", line)
-refusal_of (bad.Unclosed line) = (codes "unclosed", line)
-refusal_of bad.Oom = (codes "memory", 0)
-
--- the line of a source that is refused
-abbrev pub refused_line : Bytes → CppBad → Bytes
-refused_line name bad = name ++ codes ".refused " ++ (refusal_of bad).0 ++ codes " " ++ decimal (refusal_of bad).1
-
--- ---- the total line
-
--- how many blocks have which word
-pub record Totals : Type 0 where
-  pub blocks : ℕ
-  pub dead : ℕ
-  pub undead : ℕ
-  pub live : ℕ
-  pub undecided : ℕ
-
--- one more word
-abbrev pub counted : Totals → Word → Totals
-counted t (Dead class) = record t { blocks = suc t.blocks; dead = suc t.dead }
-counted t (Undead class) = record t { blocks = suc t.blocks; undead = suc t.undead }
-counted t Live = record t { blocks = suc t.blocks; live = suc t.live }
-counted t (Undecided ask) = record t { blocks = suc t.blocks; undecided = suc t.undecided }
-
--- the words in order
-abbrev pub totals_from : Totals → List Word → Totals
-totals_from t [] = t
-totals_from t (w ∷ ws) = totals_from (counted t w) ws
-
--- of all words of a run
-abbrev pub totals_of : List Word → Totals
-totals_of = totals_from (record { blocks = 0; dead = 0; undead = 0; live = 0; undecided = 0 })
-
--- the last line
-abbrev pub total_line : Totals → Bytes
-total_line t = codes "blocks " ++ decimal t.blocks ++ codes " dead " ++ decimal t.dead ++ codes " undead " ++ decimal t.undead
-    ++ codes " live " ++ decimal t.live ++ codes " undecided " ++ decimal t.undecided
-
--- ---- sources
-
--- what a report says of a source: why it is refused, or the word on each block
+-- of a source: why it is refused, or what is said of each block
 pub data Said : Type 0 where
   Refusal : CppBad → Said
-  Words : List Word → Said
+  Blocks : List BlockSaid → Said
 
--- the lines of the blocks from this number on
-abbrev pub block_lines : Bytes → ℕ → ℕ → List Word → List Bytes
+-- ---- its lines
+
+-- of the blocks from this number on
+abbrev pub block_lines : Bytes → ℕ → ℕ → List BlockSaid → List Bytes
 block_lines name steps block [] = []
-block_lines name steps block (w ∷ ws) = block_line name steps block w ∷ block_lines name steps (suc block) ws
+block_lines name steps block (b ∷ bs) = (block_line name steps block b.word ∷ b.under) ++ block_lines name steps (suc block) bs
 
--- the lines of one source
+-- of one source
 abbrev pub source_lines : ℕ → Bytes × Said → List Bytes
 source_lines steps (name, Refusal bad) = refused_line name bad ∷ []
-source_lines steps (name, Words ws) = block_lines name steps 1 ws
+source_lines steps (name, Blocks bs) = block_lines name steps 1 bs
 
 -- the words on its blocks
 abbrev pub words_of : Bytes × Said → List Word
 words_of (name, Refusal bad) = []
-words_of (name, Words ws) = ws
+words_of (name, Blocks bs) = map (λ (b : BlockSaid). b.word) bs
 
--- the lines of the report, from the names of the sources and what is said of each
+-- of the whole report
 abbrev pub report_lines : ℕ → List (Bytes × Said) → List Bytes
 report_lines steps said = flat_map (source_lines steps) said ++ total_line (totals_of (flat_map words_of said)) ∷ []
 
--- each line with its newline
-abbrev pub text_of : List Bytes → Bytes
-text_of lines = concat (map (λ line. line ++ 10 ∷ []) lines)
+-- ---- reports over a problem, where this says what is right of a block
 
--- ---- the report
-
--- a source as it was read: its name, and its directives or its first fault
-pub record Source : Type 0 where
-  pub name : Bytes
-  pub read : Result (List Directive) CppBad
-
--- each block has its right word, where `spent` tells which questions weren't decided
-pub record AreWords (t : Shape) (ds : List Directive) (spent : ℕ → Family → Ask → Bool) (words : List Word) : Type 0 where
-  pub each : length words ≡ count_of ds
-  pub right : (k : ℕ) → k < length words → IsWordOf t ds (spent (suc k)) (suc k) (get_or words k Live)
+-- what is said of each block of a source is right
+pub record AreSaidOn (Right : BlockId → BlockSaid → Type 0) (file : ℕ) (ds : List Directive) (said : List BlockSaid) : Type 0 where
+  pub count : length said ≡ count_of ds
+  pub each : (k : ℕ) → k < length said → Right (record { file = file; block = suc k }) (get_or said k nothing_said)
 
 -- what is said of a source is right
-abbrev pub IsSaidOf : Shape → (ℕ → Family → Ask → Bool) → Result (List Directive) CppBad → Said → Type 0
-IsSaidOf t spent (Ok ds) (Words ws) = AreWords t ds spent ws
-IsSaidOf t spent (Ok ds) (Refusal b) = ⊥
-IsSaidOf t spent (Err e) (Words ws) = ⊥
-IsSaidOf t spent (Err e) (Refusal b) = b ≡ e
+abbrev pub IsSaidOf : (BlockId → BlockSaid → Type 0) → ℕ → Result (List Directive) CppBad → Said → Type 0
+IsSaidOf Right file (Ok ds) (Blocks bs) = AreSaidOn Right file ds bs
+IsSaidOf Right file (Ok ds) (Refusal b) = ⊥
+IsSaidOf Right file (Err e) (Blocks bs) = ⊥
+IsSaidOf Right file (Err e) (Refusal b) = b ≡ e
 
--- and of each source in order, where `spent` takes the source's number first
-abbrev pub AreSaid : Shape → (ℕ → ℕ → Family → Ask → Bool) → ℕ → List Source → List (Bytes × Said) → Type 0
-AreSaid t spent file [] [] = Unit {0}
-AreSaid t spent file (s ∷ ss) [] = ⊥
-AreSaid t spent file [] (x ∷ xs) = ⊥
-AreSaid t spent file (s ∷ ss) (x ∷ xs) = (x.0 ≡ s.name) × IsSaidOf t (spent file) s.read x.1 × AreSaid t spent (suc file) ss xs
+-- and of each source in order, from this number on
+abbrev pub AreSaid : (BlockId → BlockSaid → Type 0) → ℕ → List Source → List (Bytes × Said) → Type 0
+AreSaid Right file [] [] = Unit {0}
+AreSaid Right file (s ∷ ss) [] = ⊥
+AreSaid Right file [] (x ∷ xs) = ⊥
+AreSaid Right file (s ∷ ss) (x ∷ xs) = (x.0 ≡ s.name) × IsSaidOf Right file s.read x.1 × AreSaid Right (suc file) ss xs
 
--- the text is the report of these sources under this tree
-pub record IsReport (t : Shape) (sources : List Source) (spent : ℕ → ℕ → Family → Ask → Bool) (steps : ℕ) (text : Bytes) : Type 0 where
+-- the text says what is right of all sources
+pub record IsReportBy (p : Problem) (Right : BlockId → BlockSaid → Type 0) (steps : ℕ) (text : Bytes) : Type 0 where
   pub said : List (Bytes × Said)
-  pub right : AreSaid t spent 0 sources said
+  pub right : AreSaid Right 0 p.sources said
   pub lines : text ≡ text_of (report_lines steps said)
+
+-- ---- where some questions were not decided
+
+-- which questions on each block were not decided
+abbrev pub Spent : Type 0
+Spent = BlockId → Family → Ask → Bool
+
+-- the word on a block is right, and so is what stands under its line
+pub record IsSaidOn (p : Problem) (steps : ℕ) (evidence : Bool) (spent : Spent) (b : BlockId) (said : BlockSaid) : Type 0 where
+  pub right : IsWordOf p steps (spent b) b said.word
+  pub under : AreFurther evidence p b said.word said.under
+
+-- the text is the report where these questions were not decided
+abbrev pub IsReport : Problem → ℕ → Bool → Spent → Bytes → Type 0
+IsReport p steps evidence spent text = IsReportBy p (IsSaidOn p steps evidence spent) steps text
+
+-- ---- the report of a run
+
+-- the word on a block is right where it leaves undecided only what can run out of steps, and so is what stands under its line
+pub record IsRunSaidOn (p : Problem) (steps : ℕ) (evidence : Bool) (b : BlockId) (said : BlockSaid) : Type 0 where
+  pub right : IsWordAt p steps b said.word
+  pub under : AreFurther evidence p b said.word said.under
+
+-- the lines of a block in the report of a run
+pub record IsBlockLines (p : Problem) (steps : ℕ) (evidence : Bool) (name : Bytes) (b : BlockId) (lines : List Bytes) : Type 0 where
+  pub said : BlockSaid
+  pub right : IsRunSaidOn p steps evidence b said
+  pub text : lines ≡ block_line name steps b.block said.word ∷ said.under
+
+-- the text is the report of a run with this budget
+abbrev pub IsRunReport : Problem → ℕ → Bool → Bytes → Type 0
+IsRunReport p steps evidence text = IsReportBy p (IsRunSaidOn p steps evidence) steps text
+
+-- law: it is the report where some questions were not decided, each of which can run out of steps
+abbrev pub RunsReport : Type 0
+RunsReport = (p : Problem) (steps : ℕ) (evidence : Bool) (text : Bytes) → IsRunReport p steps evidence text
+    → (spent : Spent) × IsReport p steps evidence spent text × ((b : BlockId) → AreSpent p steps (spent b) b)

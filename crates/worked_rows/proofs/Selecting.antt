@@ -1,21 +1,24 @@
 -- A symbol without a prompt that another selects has y exactly where its selector has.
-use Rattle.std.proofs.Common.{◌≡◌, ℕ, ◌<◌, ◌==◌, zero, suc, Bool, true, false, not, ◌&&◌, cond, refl, ap, sym, ◌∙◌, arith, List, Option, None, Some, ◌⊎◌, inl, inr, ⊎_elim, max, min}
-use Rattle.ut_text.specs.Text.{text_eq}
-use Rattle.cpp_blocks.specs.declared.state.MacroState.TheVariants.{Undefined, DefinedTrue}
+use Rattle.std.proofs.Common.{◌≡◌, ℕ, ◌<◌, ◌==◌, zero, suc, Bool, true, false, not, ◌&&◌, cond, refl, ap, sym, ◌∙◌, arith, [], Option, None, Some, ◌⊎◌, inl, inr, ⊎_elim, max, min}
 use Rattle.cpp_blocks.specs.Run.{is_defined}
 use Rattle.kconf_tree.specs.declared.shape.Counts.TheVariants as counts
 use Rattle.kconf_tree.specs.Value.{Configuration}
 use Rattle.kconf_tree.specs.Properties.{visibility_of, reverse_of}
 use Rattle.kconf_tree.specs.Valid.{base_of, calculate, HasValueBy, KeepsRules, IsValid}
-use Rattle.ut_verdict.specs.declared.question.Class.TheVariants as class
-use Rattle.ut_verdict.specs.declared.word.Word.TheVariants.{Dead, Live}
-use Rattle.ut_verdict.specs.On.{Case, config_name, start_by}
-use Rattle.ut_verdict.specs.Verdicts.{IsWordOf}
-use Rattle.worked_rows.specs.Texts.{selecting_tree, backwards, dependent, none_spent}
-use Rattle.worked_rows.proofs.Validity.{all_at, value_y}
-use Rattle.worked_rows.proofs.Nested.{config_a, config_b, defined_if}
+use Rattle.ut_case.specs.declared.question.Class.TheVariants as class
+use Rattle.ut_case.specs.declared.question.Family.TheVariants as family
+use Rattle.ut_case.specs.declared.word.Word.TheVariants.{Dead, Live}
+use Rattle.ut_case.specs.Cases.{Case}
+use Rattle.ut_case.specs.Problem.{Basis, OfTree}
+use Rattle.ut_case.specs.Words.{IsWordOf}
+use Rattle.worked_rows.specs.Problems.{over, block, none_spent}
+use Rattle.worked_rows.specs.Texts.{selecting_tree, backwards, dependent}
+use Rattle.worked_rows.proofs.Asked.{of_valid}
 use Rattle.worked_rows.proofs.ByRules.{live_outer_negated, dead_without}
 use Rattle.worked_rows.proofs.Facts.{no_third, no_choice}
+use Rattle.worked_rows.proofs.Macros.{config_a, config_b, defined_if, case_with}
+use Rattle.worked_rows.proofs.Nested.{macro_in}
+use Rattle.worked_rows.proofs.Validity.{all_at, value_y}
 
 -- ---- limits
 
@@ -64,7 +67,7 @@ they_agree c r = ⊎_elim (λ e. at 0 refl e) (λ e. at 2 refl e) b_cases
 -- nothing is set
 off_is_valid : IsValid selecting_tree (all_at 0 (λ name. false))
 off_is_valid = record {
-  rules = record { setting = λ k. None; calculated = record { gives = λ k lt own. at k lt }; choices = λ i lt. absurd (no_choice i lt) };
+  rules = record { values = λ k lt. omega arith; setting = λ k. None; calculated = record { gives = λ k lt own. at k lt }; choices = λ i lt. absurd (no_choice i lt) };
   undeclared_are_n = λ name. refl;
 }
   where
@@ -80,7 +83,7 @@ b_set k = cond (k == 1) (Some 2) None
 -- and so both are y
 on_is_valid : IsValid selecting_tree (all_at 2 (λ name. false))
 on_is_valid = record {
-  rules = record { setting = b_set; calculated = record { gives = λ k lt own. at k lt }; choices = λ i lt. absurd (no_choice i lt) };
+  rules = record { values = λ k lt. omega arith; setting = b_set; calculated = record { gives = λ k lt own. at k lt }; choices = λ i lt. absurd (no_choice i lt) };
   undeclared_are_n = λ name. refl;
 }
   where
@@ -91,24 +94,23 @@ on_is_valid = record {
 
 -- ---- the macros at the start
 
--- A's macro is defined where A is y
-a_defined : (x : Case) → is_defined (start_by selecting_tree x config_a (config_name config_a)) ≡ (x.configuration.value 0 == 2)
-a_defined x = defined_if (x.configuration.value 0 == 2)
+-- the tree of A and its selector B
+abbrev selecting : Basis
+selecting = OfTree selecting_tree
 
--- B's macro is defined where B is y
-b_defined : (x : Case) → is_defined (start_by selecting_tree x config_b (config_name config_b)) ≡ (x.configuration.value 1 == 2)
-b_defined x = defined_if (x.configuration.value 1 == 2)
+-- both macros are defined or neither is, where A's is asked for first
+agree_forwards : (x : Case) → KeepsRules selecting_tree x.configuration
+    → is_defined (macro_in selecting family.Whole x config_a config_b config_a) ≡ is_defined (macro_in selecting family.Whole x config_a config_b config_b)
+agree_forwards x r = defined_if (x.configuration.value 0 == 2) ∙ they_agree x.configuration r ∙ sym (defined_if (x.configuration.value 1 == 2))
 
--- both macros are defined or neither is
-macros_agree : (x : Case) → KeepsRules selecting_tree x.configuration → is_defined (start_by selecting_tree x config_a (config_name config_a)) ≡ is_defined (start_by selecting_tree x config_b (config_name config_b))
-macros_agree x r = a_defined x ∙ they_agree x.configuration r ∙ sym (b_defined x)
+-- and where B's is
+agree_backwards : (x : Case) → KeepsRules selecting_tree x.configuration
+    → is_defined (macro_in selecting family.Whole x config_b config_a config_b) ≡ is_defined (macro_in selecting family.Whole x config_b config_a config_a)
+agree_backwards x r = defined_if (x.configuration.value 1 == 2) ∙ sym (they_agree x.configuration r) ∙ sym (defined_if (x.configuration.value 0 == 2))
 
--- of the macros that start free this one alone is defined, and every symbol has this value
-abbrev case_at : ℕ → List ℕ → Case
-case_at value macro = record {
-  configuration = all_at value (λ name. false);
-  environment = record { start = λ other. cond (text_eq other macro) DefinedTrue Undefined; truth = λ other. false; piece = λ text n. false; line = λ line. false };
-}
+-- every symbol has this value, and of the macros that start free the first one is defined
+abbrev case_at : ℕ → Case
+case_at value = case_with (all_at value (λ name. false)) 0
 
 -- of two equal truths not one alone holds
 one_fails : (a b : Bool) → a ≡ b → (a && not b) ≡ false
@@ -119,13 +121,13 @@ one_fails false b h = refl
 -- ---- words
 
 -- the block that asks for A
-pub backwards_first : IsWordOf selecting_tree backwards none_spent 1 Live
-backwards_first = live_outer_negated selecting_tree config_a config_b (case_at 2 config_a) (case_at 0 config_a) on_is_valid off_is_valid refl refl
+pub backwards_first : (steps : ℕ) → IsWordOf (over selecting_tree backwards) steps none_spent (block 1) Live
+backwards_first steps = live_outer_negated selecting [] steps config_a config_b (case_at 2) (case_at 0) (of_valid selecting_tree _ on_is_valid) (of_valid selecting_tree _ off_is_valid) refl refl
 
 -- the block in it that asks that B is off
-pub backwards_second : IsWordOf selecting_tree backwards none_spent 2 (Dead class.Kconfig)
-backwards_second = dead_without selecting_tree config_a config_b (case_at 0 config_a) refl (λ x r. one_fails _ _ (macros_agree x r))
+pub backwards_second : (steps : ℕ) → IsWordOf (over selecting_tree backwards) steps none_spent (block 2) (Dead class.Kconfig)
+backwards_second steps = dead_without selecting [] steps config_a config_b (case_at 0) refl (λ x r. one_fails _ _ (agree_forwards x r))
 
 -- in a block that asks for B, the one that asks that A is off
-pub forwards_second : IsWordOf selecting_tree dependent none_spent 2 (Dead class.Kconfig)
-forwards_second = dead_without selecting_tree config_b config_a (case_at 0 config_b) refl (λ x r. one_fails _ _ (sym (macros_agree x r)))
+pub forwards_second : (steps : ℕ) → IsWordOf (over selecting_tree dependent) steps none_spent (block 2) (Dead class.Kconfig)
+forwards_second steps = dead_without selecting [] steps config_b config_a (case_at 0) refl (λ x r. one_fails _ _ (agree_backwards x r))

@@ -1,23 +1,27 @@
 -- A tristate symbol is y or m, and m only where modules are on.
-use Rattle.std.proofs.Common.{◌≡◌, ℕ, ◌<◌, ◌==◌, zero, suc, Bool, true, false, not, ◌&&◌, cond, refl, ap, sym, subst, ◌∙◌, arith, List, Option, Some, inr, max, codes}
+use Rattle.std.proofs.Common.{◌≡◌, ℕ, ◌≤◌, ◌<◌, ◌==◌, zero, suc, Bool, true, false, not, ◌&&◌, cond, refl, ap, sym, subst, ◌∙◌, arith, List, [], Option, Some, inr, max, codes}
 use Rattle.std.proofs.lemmas.Bool.{false≢true}
 use Rattle.std.proofs.lemmas.Bool.Decides.{nat_tests}
-use Rattle.ut_text.specs.Text.{text_eq}
 use Rattle.cpp_blocks.specs.declared.state.MacroState.TheVariants.{Undefined, DefinedTrue}
 use Rattle.cpp_blocks.specs.Run.{is_defined}
 use Rattle.kconf_tree.specs.declared.shape.Counts.TheVariants as counts
 use Rattle.kconf_tree.specs.Value.{Configuration}
 use Rattle.kconf_tree.specs.Properties.{visibility_of}
 use Rattle.kconf_tree.specs.Valid.{base_of, calculate, promoted, HasValueBy, KeepsRules, IsValid}
-use Rattle.ut_verdict.specs.declared.question.Class.TheVariants as class
-use Rattle.ut_verdict.specs.declared.word.Word.TheVariants.{Dead, Live}
-use Rattle.ut_verdict.specs.On.{Case, config_name, start_by}
-use Rattle.ut_verdict.specs.Verdicts.{IsWordOf}
-use Rattle.worked_rows.specs.Texts.{modular_tree, both_ways, module_alone, none_spent}
-use Rattle.worked_rows.proofs.Validity.{value_y}
-use Rattle.worked_rows.proofs.Nested.{config_a, defined_if}
+use Rattle.ut_case.specs.declared.question.Class.TheVariants as class
+use Rattle.ut_case.specs.declared.question.Family.TheVariants as family
+use Rattle.ut_case.specs.declared.word.Word.TheVariants.{Dead, Live}
+use Rattle.ut_case.specs.Cases.{Case}
+use Rattle.ut_case.specs.Problem.{Basis, OfTree}
+use Rattle.ut_case.specs.Words.{IsWordOf}
+use Rattle.worked_rows.specs.Problems.{over, block, none_spent}
+use Rattle.worked_rows.specs.Texts.{modular_tree, both_ways, module_alone}
+use Rattle.worked_rows.proofs.Asked.{of_valid}
 use Rattle.worked_rows.proofs.ByRules.{live_outer, live_outer_negated, dead_together, dead_without}
 use Rattle.worked_rows.proofs.Facts.{no_third, no_choice, without_fails}
+use Rattle.worked_rows.proofs.Macros.{config_a, defined_if, case_with}
+use Rattle.worked_rows.proofs.Nested.{macro_in}
+use Rattle.worked_rows.proofs.Validity.{value_y}
 
 -- the macro that is defined where A is m
 abbrev config_a_module : List ℕ
@@ -80,10 +84,14 @@ set_to value k = Some (cond (k == 0) value 2)
 -- where both are set
 set_is_valid : (value : ℕ) → HasValueBy modular_tree (with_modules value) (Some value) 0 → IsValid modular_tree (with_modules value)
 set_is_valid value a = record {
-  rules = record { setting = set_to value; calculated = record { gives = λ k lt own. at k lt }; choices = λ i lt. absurd (no_choice i lt) };
+  rules = record { values = λ k lt. small (k == 0); setting = set_to value; calculated = record { gives = λ k lt own. at k lt }; choices = λ i lt. absurd (no_choice i lt) };
   undeclared_are_n = λ name. refl;
 }
   where
+    small : (b : Bool) → cond b value 2 ≤ 2
+    small true = a.0
+    small false = omega arith
+
     at : (k : ℕ) → k < 2 → HasValueBy modular_tree (with_modules value) (set_to value k) k
     at zero lt = a
     at (suc zero) lt = (inr refl, ap (λ v. calculate counts.Bool true v 0 0 (Some 2)) (modules_visible (with_modules value)))
@@ -99,21 +107,14 @@ m_is_valid = set_is_valid 1 (omega arith, ap (λ v. calculate counts.Tristate tr
 
 -- ---- the macros at the start
 
--- A's macro is defined where A is y
-a_defined : (x : Case) → is_defined (start_by modular_tree x config_a (config_name config_a)) ≡ (x.configuration.value 0 == 2)
-a_defined x = defined_if (x.configuration.value 0 == 2)
+-- the tree of A and MODULES
+abbrev modular : Basis
+modular = OfTree modular_tree
 
--- `CONFIG_A_MODULE` is defined where A is m
-module_defined : (x : Case) → is_defined (start_by modular_tree x config_a_module (config_name config_a_module)) ≡ (x.configuration.value 0 == 1)
-module_defined x = by (x.configuration.value 0 == 1)
-  where
-    by : (b : Bool) → is_defined (cond b DefinedTrue Undefined) ≡ b
-    by true = refl
-    by false = refl
-
--- that of the modules symbol where it is y
-modules_defined : (x : Case) → is_defined (start_by modular_tree x config_modules (config_name config_modules)) ≡ (x.configuration.value 1 == 2)
-modules_defined x = defined_if (x.configuration.value 1 == 2)
+-- defined where this holds, and else undefined
+defined_at : (b : Bool) → is_defined (cond b DefinedTrue Undefined) ≡ b
+defined_at true = refl
+defined_at false = refl
 
 -- a value isn't y and m at once
 never_both : (v : ℕ) → ((v == 2) && (v == 1)) ≡ false
@@ -126,29 +127,38 @@ never_both v = by (v == 2) refl
     by false e = refl
     by true e = ap (λ u. u == 1) (is_two v e)
 
--- A has this value, and of the macros that start free all but that of the modules symbol are defined
-abbrev case_of : ℕ → Case
-case_of value = record {
-  configuration = with_modules value;
-  environment = record { start = λ macro. cond (text_eq macro config_modules) Undefined DefinedTrue; truth = λ macro. false; piece = λ text n. false; line = λ line. false };
-}
+-- not both A's macro and `CONFIG_A_MODULE` are defined
+never_both_ways : (x : Case) → (is_defined (macro_in modular family.Whole x config_a config_a_module config_a) && is_defined (macro_in modular family.Whole x config_a config_a_module config_a_module)) ≡ false
+never_both_ways x = ap (λ b. b && is_defined (macro_in modular family.Whole x config_a config_a_module config_a_module)) (defined_if (x.configuration.value 0 == 2))
+    ∙ ap (λ b. (x.configuration.value 0 == 2) && b) (defined_at (x.configuration.value 0 == 1)) ∙ never_both (x.configuration.value 0)
+
+-- where A is m, modules are on
+never_alone : (x : Case) → KeepsRules modular_tree x.configuration
+    → (is_defined (macro_in modular family.Whole x config_a_module config_modules config_a_module) && not (is_defined (macro_in modular family.Whole x config_a_module config_modules config_modules))) ≡ false
+never_alone x r = without_fails (is_defined (macro_in modular family.Whole x config_a_module config_modules config_a_module)) (is_defined (macro_in modular family.Whole x config_a_module config_modules config_modules)) (λ h. defined_if (x.configuration.value 1 == 2) ∙ m_needs_modules x.configuration r (sym (defined_at (x.configuration.value 0 == 1)) ∙ h))
+
+-- A has this value, and all macros that start free are defined
+abbrev all_defined : ℕ → Case
+all_defined value = record { configuration = with_modules value; environment = λ i. true }
+
+-- of the macros that start free the first one is defined
+abbrev first_defined : ℕ → Case
+first_defined value = case_with (with_modules value) 0
 
 -- ---- words
 
 -- the block that asks for y
-pub both_first : IsWordOf modular_tree both_ways none_spent 1 Live
-both_first = live_outer modular_tree config_a config_a_module (case_of 2) (case_of 1) y_is_valid m_is_valid refl refl
+pub both_first : (steps : ℕ) → IsWordOf (over modular_tree both_ways) steps none_spent (block 1) Live
+both_first steps = live_outer modular [] steps config_a config_a_module (all_defined 2) (all_defined 1) (of_valid modular_tree _ y_is_valid) (of_valid modular_tree _ m_is_valid) refl refl
 
 -- the block in it that asks for m
-pub both_second : IsWordOf modular_tree both_ways none_spent 2 (Dead class.Kconfig)
-both_second = dead_together modular_tree config_a config_a_module (case_of 2) refl
-    (λ x r. ap (λ b. b && is_defined (start_by modular_tree x config_a_module (config_name config_a_module))) (a_defined x) ∙ ap (λ b. (x.configuration.value 0 == 2) && b) (module_defined x) ∙ never_both (x.configuration.value 0))
+pub both_second : (steps : ℕ) → IsWordOf (over modular_tree both_ways) steps none_spent (block 2) (Dead class.Kconfig)
+both_second steps = dead_together modular [] steps config_a config_a_module (all_defined 2) refl (λ x r. never_both_ways x)
 
 -- the block that asks for m
-pub alone_first : IsWordOf modular_tree module_alone none_spent 1 Live
-alone_first = live_outer_negated modular_tree config_a_module config_modules (case_of 1) (case_of 2) m_is_valid y_is_valid refl refl
+pub alone_first : (steps : ℕ) → IsWordOf (over modular_tree module_alone) steps none_spent (block 1) Live
+alone_first steps = live_outer_negated modular [] steps config_a_module config_modules (first_defined 1) (first_defined 2) (of_valid modular_tree _ m_is_valid) (of_valid modular_tree _ y_is_valid) refl refl
 
 -- the block in it that asks that modules are off
-pub alone_second : IsWordOf modular_tree module_alone none_spent 2 (Dead class.Kconfig)
-alone_second = dead_without modular_tree config_a_module config_modules (case_of 1) refl
-    (λ x r. without_fails _ _ (λ h. modules_defined x ∙ m_needs_modules x.configuration r (sym (module_defined x) ∙ h)))
+pub alone_second : (steps : ℕ) → IsWordOf (over modular_tree module_alone) steps none_spent (block 2) (Dead class.Kconfig)
+alone_second steps = dead_without modular [] steps config_a_module config_modules (first_defined 1) refl never_alone

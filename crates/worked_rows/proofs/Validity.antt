@@ -1,20 +1,20 @@
 -- Configurations of A and of B that depends on A: two that are valid, and what the rules say of all.
-use Rattle.std.proofs.Common.{◌≡◌, ℕ, ◌<◌, ◌==◌, zero, suc, Bool, true, false, cond, refl, ap, sym, subst, ◌∙◌, arith, rules, List, Option, None, Some, max, min, inr, codes}
+use Rattle.std.proofs.Common.{◌≡◌, ℕ, ◌<◌, ◌==◌, zero, suc, Bool, true, false, cond, refl, ap, sym, subst, ◌∙◌, arith, List, Option, None, Some, max, min, inr, codes}
 use Rattle.std.proofs.lemmas.Bool.Decides.{nat_tests}
 use Rattle.ut_logic.specs.declared.trit.Trit.TheVariants.{Y}
 use Rattle.kconf_entries.specs.declared.expr.Expr.{Expr, out-Expr}
 use Rattle.kconf_entries.specs.declared.expr.Expr.TheOpen.{Expr-F}
 use Rattle.kconf_entries.specs.declared.expr.Expr.TheVariants.{Const, Name}
 use Rattle.kconf_entries.specs.declared.expr.Expr.TheFolds.{fold_out-Expr, map-Expr}
-use Rattle.kconf_entries.specs.declared.expr.Expr.TheViews.{the_lemmas}
 use Rattle.kconf_tree.specs.declared.shape.Counts.TheVariants as counts
 use Rattle.kconf_tree.specs.Shape.{Shape}
 use Rattle.kconf_tree.specs.declared.place.Place.TheVariants.{Condition}
 use Rattle.kconf_tree.specs.Value.{Configuration, value_of, value_step, name_value}
 use Rattle.kconf_tree.specs.Properties.{visibility_of}
-use Rattle.kconf_tree.specs.Valid.{calculate, calculated_of, HasValueBy, IsSettingOf, KeepsRules, IsValid}
+use Rattle.kconf_tree.specs.Valid.{calculate, HasValueBy, KeepsRules, IsValid}
 use Rattle.worked_rows.specs.Texts.{two_tree}
 use Rattle.worked_rows.proofs.Facts.{no_third, no_choice}
+use Rattle.worked_rows.proofs.Layers.{out_name, out_y}
 
 -- ---- the value of a condition
 
@@ -22,14 +22,6 @@ module _ (t : Shape) (c : Configuration) where
   -- by its outermost layer
   value_out : (e : Expr) → value_of t c e ≡ value_step t c Condition (map-Expr Expr ℕ (value_of t c) (out-Expr e))
   value_out e = fold_out-Expr ℕ (value_step t c Condition) e
-
-  -- the layer of a name
-  out_name : (n : List ℕ) → out-Expr (Name n) ≡ Expr-F.Name n
-  out_name n = search (rules, the_lemmas)
-
-  -- the layer of the constant y
-  out_y : out-Expr (Const Y) ≡ Expr-F.Const Y
-  out_y = search (rules, the_lemmas)
 
   -- of a name
   value_name : (n : List ℕ) → value_of t c (Name n) ≡ name_value t c n
@@ -61,6 +53,7 @@ all_at value undeclared = record { value = λ k. value; mode = λ i. 0; outer = 
 -- where no symbol is set, all are n
 pub off_keeps_rules : (undeclared : List ℕ → Bool) → KeepsRules two_tree (all_at 0 undeclared)
 off_keeps_rules undeclared = record {
+  values = λ k lt. omega arith;
   setting = λ k. None;
   calculated = record { gives = λ k lt own. at k lt };
   choices = λ i lt. absurd (no_choice i lt);
@@ -74,6 +67,7 @@ off_keeps_rules undeclared = record {
 -- where both are set to y, both are y
 pub on_keeps_rules : (undeclared : List ℕ → Bool) → KeepsRules two_tree (all_at 2 undeclared)
 on_keeps_rules undeclared = record {
+  values = λ k lt. omega arith;
   setting = λ k. Some 2;
   calculated = record { gives = λ k lt own. at k lt };
   choices = λ i lt. absurd (no_choice i lt);
@@ -122,6 +116,10 @@ n_or_y vis x u h e = by (max (Rattle.kconf_tree.specs.Valid.base_of vis 0 u) 0 =
     by : (b : Bool) → cond b 0 2 ≡ x → (x == 2) ≡ true
     by true g = zero_is x g e
     by false g = two_is x g
+
+-- where the rules are kept, A is n or y
+pub a_is_bool : (c : Configuration) → KeepsRules two_tree c → (c.value 0 == 0) ≡ false → (c.value 0 == 2) ≡ true
+a_is_bool c r h = n_or_y (visibility_of two_tree c 0) (c.value 0) (r.setting 0) (r.calculated.gives 0 (omega arith) refl).1 h
 
 -- where the rules are kept and B is y, A is y
 pub b_needs_a : (c : Configuration) → KeepsRules two_tree c → (c.value 1 == 2) ≡ true → (c.value 0 == 2) ≡ true

@@ -1,25 +1,22 @@
--- The Kconfig texts and the sources of the rows, as the entries and directives that they are read as.
+-- The Kconfig texts, model texts and sources of the rows, as the entries, rules and directives that they are read as.
 -- Rule: this project's own. That texts are read so is a law for those that the readers of the first forms take.
-use Rattle.std.specs.Prelude.{ℕ, Bool, true, false, List, [], ◌∷◌, Some, Ok, codes, suc}
+use Rattle.std.specs.Prelude.{ℕ, true, false, List, [], ◌∷◌, Some, codes, suc}
 use Rattle.ut_text.specs.Bytes.{Bytes}
 use Rattle.cpp_directives.specs.declared.directive.Directive.{Directive}
 use Rattle.cpp_directives.specs.declared.directive.What.{What}
 use Rattle.cpp_directives.specs.declared.directive.What.TheVariants.{If, Elif, Else, Endif, Define}
 use Rattle.cpp_directives.specs.declared.directive.Gives.TheVariants.{Free}
-use Rattle.cpp_directives.specs.declared.condition.Cond.TheVariants.{Defined, Neg}
-use Rattle.ut_logic.specs.declared.trit.Trit.TheVariants.{Y}
+use Rattle.cpp_directives.specs.declared.condition.Cond.TheVariants.{Defined, Plain, Neg}
+use Rattle.ut_logic.specs.declared.facts.Rules.{Rules}
+use Rattle.ut_logic.specs.declared.formula.Formula.TheVariants as formula
+use Rattle.ut_logic.specs.declared.item.Item.TheVariants.{SymY}
+use Rattle.ut_logic.specs.declared.trit.Trit.TheVariants.{N, Y}
 use Rattle.kconf_entries.specs.declared.expr.Expr.TheVariants.{Const}
 use Rattle.kconf_entries.specs.declared.entries.Kind.TheVariants as kind
 use Rattle.kconf_entries.specs.declared.entries.Entries.{Entries}
 use Rattle.kconf_entries.specs.BoolEntries.{bool_entry}
 use Rattle.kconf_tree.specs.Shape.{Shape}
 use Rattle.kconf_tree.specs.Gathered.{gathered}
-use Rattle.ut_verdict.specs.declared.question.Family.{Family}
-use Rattle.ut_verdict.specs.declared.question.Ask.{Ask}
-use Rattle.ut_verdict.specs.declared.question.Class.TheVariants as class
-use Rattle.ut_verdict.specs.declared.word.Word.{Word}
-use Rattle.ut_verdict.specs.declared.word.Word.TheVariants.{Dead, Undead}
-use Rattle.ut_report.specs.Report.{Source}
 
 -- ---- Kconfig texts
 
@@ -63,6 +60,23 @@ with_modules = record {
 -- its tree
 abbrev pub modular_tree : Shape
 modular_tree = gathered with_modules
+
+-- the int HZ without a prompt, and with a default
+abbrev pub with_number : Entries
+with_number = record {
+  configs = record (bool_entry (codes "HZ") []) { kind = kind.Int; prompts = []; defaults = record { value = Const N; cond = Const Y; text = Some (codes "250") } ∷ [] } ∷ [];
+  choices = [];
+}
+
+-- its tree
+abbrev pub number_tree : Shape
+number_tree = gathered with_number
+
+-- ---- a model text
+
+-- `CONFIG_A "CONFIG_B"` and `CONFIG_B`
+abbrev pub two_rules : Rules
+two_rules = record { names = codes "CONFIG_A" ∷ codes "CONFIG_B" ∷ []; holds = formula.AnyOf (formula.Neg (formula.Is (SymY 0)) ∷ formula.Is (SymY 1) ∷ []) ∷ [] }
 
 -- ---- sources
 
@@ -127,22 +141,10 @@ behind_define = lines_from 1 (Define (codes "SEEN") Free ∷ ifdef (codes "SEEN"
 abbrev pub same_twice : List Directive
 same_twice = lines_from 1 (ifdef (codes "CONFIG_A") ∷ Elif (Defined (codes "CONFIG_A")) ∷ Endif ∷ [])
 
--- ---- reports
+-- `#ifndef CONFIG_A`, `#endif`
+abbrev pub without_a : List Directive
+without_a = lines_from 1 (ifndef (codes "CONFIG_A") ∷ Endif ∷ [])
 
--- one source of this name, with these directives
-abbrev pub one_source : Bytes → List Directive → List Source
-one_source name ds = record { name = name; read = Ok ds } ∷ []
-
--- each question on a block is decided
-abbrev pub none_spent : Family → Ask → Bool
-none_spent f ask = false
-
--- each question of a run is decided
-abbrev pub all_decided : ℕ → ℕ → Family → Ask → Bool
-all_decided file block f ask = false
-
--- a word without the number of steps that an unclassified one holds
-abbrev pub steps_aside : Word → Word
-steps_aside (Dead (class.Unclassified steps)) = Dead (class.Unclassified 0)
-steps_aside (Undead (class.Unclassified steps)) = Undead (class.Unclassified 0)
-steps_aside w = w
+-- `#ifdef CONFIG_HZ`, and in it `#if CONFIG_HZ`
+abbrev pub asks_twice : List Directive
+asks_twice = nested (ifdef (codes "CONFIG_HZ")) (If (Plain (codes "CONFIG_HZ")))

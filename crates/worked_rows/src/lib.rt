@@ -1,7 +1,7 @@
 //! Worked rows: what the definitions say of small texts that a reader can follow by hand.
 //!
-//! Each function is a law and has an empty body: its contract names a Kconfig text, a source and the
-//! words on the source's blocks, and the proof goes from the definitions of validity, of a run, of
+//! Each function is a law and has an empty body: its contract names a Kconfig text or a model text, sources and
+//! the words on their blocks, and the proof goes from the definitions of validity, of a run, of
 //! the verdicts and of the report alone. The rules are those that these definitions name; the texts
 //! are this project's own. No contract here speaks of a program.
 //!
@@ -11,6 +11,7 @@
 mod laws;
 
 pub use laws::{
-    contrary_block, dependent_block, empty_source, members_of_a_choice, modules_on, one_answer,
-    one_chain, selected_block, undead_block, undeclared_name,
+    contrary_block, dependent_block, empty_source, group_of_a_choice, members_of_a_choice,
+    model_text, modules_on, one_answer, one_chain, selected_block, three_files, undead_block,
+    undecided_block, undeclared_macro, undeclared_name, written_number,
 };

@@ -1,9 +1,11 @@
 ghost use Rattle.std.specs.Prelude.{◌≡◌, ◌<◌, length, map, All, IfSome};
 ghost use Rattle.kconf_tree.specs.Shape as spec;
 ghost use Rattle.kconf_tree.specs.Value as value;
+ghost use Rattle.kconf_tree.specs.Valid.{choice_counts};
 ghost use Rattle.kconf_entries.specs.Written.{comparison_text};
 
 use crate::links::Link;
+use crate::node_references::counts_alone;
 use crate::shape::{Counts, Selector};
 use crate::tree::Tree;
 use kconf_entries::{Expr, Side, Sign};
@@ -27,6 +29,24 @@ impl Tree {
         self.parts.condition(Link::Selects, selector)
     }
 
+    /// The implies of a symbol by others, in order of declaration: who implies it, and the place of the imply
+    /// among `implies` of that symbol.
+    pub fn impliers(&self, sym: u32) -> &[Selector]
+        requires { sym < length self.now.shape.symbols }
+        ensures value { map (spec.implying_of self.now.shape) result.now ≡ spec.impliers_of self.now.shape sym }
+        ensures within { All (spec.IsImplier self.now.shape) result.now }
+    {
+        self.links.implies[sym as usize].as_slice()
+    }
+
+    /// The full condition of an imply.
+    pub fn imply_condition(&self, implier: Selector) -> &Expr
+        requires { spec.IsImplier self.now.shape implier }
+        ensures { result.now ≡ (spec.implying_of self.now.shape implier).cond }
+    {
+        self.parts.condition(Link::Implies, implier)
+    }
+
     /// What a symbol counts as: the modules symbol as bool, a member by its choice, every other by its
     /// own type.
     pub fn counts_as(&self, sym: u32) -> Counts
@@ -34,6 +54,14 @@ impl Tree {
         ensures { result ≡ spec.counts_as self.now.shape sym }
     {
         self.parts.counts_as(sym)
+    }
+
+    /// What a choice counts as, by its type.
+    pub fn choice_counts(&self, choice: u32) -> Counts
+        requires { choice < length self.now.shape.choices }
+        ensures { result ≡ choice_counts self.now.shape choice }
+    {
+        counts_alone(self.parts.choice_at(choice).kind)
     }
 
     /// Whether a comparison compares two of the three values; any other comparison is an outer condition.

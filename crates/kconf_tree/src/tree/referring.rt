@@ -1,6 +1,6 @@
 ghost use Rattle.std.specs.Prelude.{◌≡◌, ◌<◌, length, map, All, IfOk};
 ghost use Rattle.ut_logic.specs.declared.node.Node.TheVariants as one;
-ghost use Rattle.kconf_tree.specs.References.{node_of, references_of};
+ghost use Rattle.kconf_tree.specs.References.{choice_references, node_of, references_of, symbol_references};
 
 use crate::parts::Parts;
 use crate::tree::Tree;
@@ -23,13 +23,34 @@ impl Parts {
 }
 
 impl Tree {
+    /// The symbols that a symbol refers to that is no member, in order. The only error is out of memory.
+    pub fn symbol_numbers(&self, alloc: Global, sym: u32) -> Result<Items<u32>, AllocError>
+        requires { sym < length self.now.shape.symbols }
+        ensures numbers { IfOk result (λ row. row ≡ symbol_references self.now.shape sym) }
+        ensures within { IfOk result (λ row. All (λ k. k < length self.now.shape.symbols) row) }
+    {
+        let mut row = Items::new(alloc);
+        self.parts.mention_symbol(sym, &self.links, &mut row)?;
+        Ok(row)
+    }
+
+    /// The symbols that a choice with its members refers to, in order. The only error is out of memory.
+    pub fn choice_numbers(&self, alloc: Global, choice: u32) -> Result<Items<u32>, AllocError>
+        requires { choice < length self.now.shape.choices }
+        ensures numbers { IfOk result (λ row. row ≡ choice_references self.now.shape choice) }
+        ensures within { IfOk result (λ row. All (λ k. k < length self.now.shape.symbols) row) }
+    {
+        let mut row = Items::new(alloc);
+        self.parts.mention_choice(choice, &self.links, &mut row)?;
+        Ok(row)
+    }
+
     /// The nodes that a symbol refers to that is no member, in order. The only error is out of memory.
     pub fn symbol_references(&self, alloc: Global, sym: u32) -> Result<Vec<Node>, AllocError>
         requires { sym < length self.now.shape.symbols }
         ensures { IfOk result (λ v. v.items ≡ references_of self.now.shape (one.Sym sym)) }
     {
-        let mut row = Items::new(alloc);
-        self.parts.mention_symbol(sym, &self.links, &mut row)?;
+        let row = self.symbol_numbers(alloc, sym)?;
         self.parts.nodes(alloc, row.as_slice())
     }
 
@@ -38,8 +59,7 @@ impl Tree {
         requires { choice < length self.now.shape.choices }
         ensures { IfOk result (λ v. v.items ≡ references_of self.now.shape (one.Choice choice)) }
     {
-        let mut row = Items::new(alloc);
-        self.parts.mention_choice(choice, &self.links, &mut row)?;
+        let row = self.choice_numbers(alloc, choice)?;
         self.parts.nodes(alloc, row.as_slice())
     }
 }

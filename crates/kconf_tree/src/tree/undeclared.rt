@@ -1,8 +1,10 @@
-ghost use Rattle.std.specs.Prelude.{◌≡◌, ◌++◌, ◌↔◌, length, List, ℕ, Contains, IfOk, OnOk};
+ghost use Rattle.std.specs.Prelude.{◌≡◌, ◌++◌, IfOk, OnOk};
 ghost use Rattle.std.specs.List.{flat_map};
 ghost use Rattle.std.specs.List.Sorted.{IsStrictlySortedBy};
 ghost use Rattle.ut_text.specs.Text.{text_cmp};
+ghost use Rattle.kconf_tree.specs.Naming.{AddsNames};
 ghost use Rattle.kconf_tree.specs.Undeclared as spec;
+ghost use Rattle.kconf_tree.specs.Value as value;
 
 use crate::shape::{Choice, Symbol};
 use crate::tree::Tree;
@@ -11,15 +13,14 @@ use std::alloc::{AllocError, Global};
 use std::collections::BTreeSet;
 use ut_logic::Text;
 
-/// The names of a list, each once.
-fn distinct(alloc: Global, names: Vec<Text>) -> Result<BTreeSet<Text>, AllocError>
-    ensures { IfOk result (λ set. (name : List ℕ) → Contains set.keys name ↔ Contains names.items name) }
+/// Adds the names of a list to a set.
+fn add_names(set: &mut BTreeSet<Text>, names: Vec<Text>) -> Result<(), AllocError>
+    ensures { OnOk result (AddsNames set.old set.new names.items) }
 {
-    let mut set = BTreeSet::new(alloc);
     for name in names {
         set.insert(name)?;
     }
-    Ok(set)
+    Ok(())
 }
 
 /// The names of a set, rising by their bytes.
@@ -72,7 +73,7 @@ impl Tree {
         right: &Side,
         names: &mut Vec<Text>,
     ) -> Result<(), AllocError>
-        ensures { OnOk result (names.new.items ≡ names.old.items ++ spec.compared_undeclared self.now.shape left.now sign right.now) }
+        ensures { OnOk result (names.new.items ≡ names.old.items ++ spec.compared_undeclared self.now.shape left.now right.now (value.comparison_of self.now.shape left.now sign right.now)) }
     {
         if !self.compares_trits(left, sign, right) {
             return Ok(());
@@ -174,22 +175,26 @@ impl Tree {
         self.push_conditions(alloc, choice.defaults.as_slice(), names)
     }
 
-    /// Adds those of all symbols.
-    fn push_symbols(&self, alloc: Global, names: &mut Vec<Text>) -> Result<(), AllocError>
-        ensures { OnOk result (names.new.items ≡ names.old.items ++ flat_map (spec.undeclared_of_symbol self.now.shape) self.now.shape.symbols) }
+    /// Adds those of all symbols, one symbol after another, so that a name is held once.
+    fn add_symbols(&self, alloc: Global, set: &mut BTreeSet<Text>) -> Result<(), AllocError>
+        ensures { OnOk result (AddsNames set.old set.new (flat_map (spec.undeclared_of_symbol self.now.shape) self.now.shape.symbols)) }
     {
         for sym in 0..self.symbols() {
-            self.push_symbol(alloc, self.symbol_at(sym), names)?;
+            let mut names = Vec::new(alloc);
+            self.push_symbol(alloc, self.symbol_at(sym), &mut names)?;
+            add_names(set, names)?;
         }
         Ok(())
     }
 
-    /// Adds those of all choices.
-    fn push_choices(&self, alloc: Global, names: &mut Vec<Text>) -> Result<(), AllocError>
-        ensures { OnOk result (names.new.items ≡ names.old.items ++ flat_map (spec.undeclared_of_choice self.now.shape) self.now.shape.choices) }
+    /// Adds those of all choices, one choice after another.
+    fn add_choices(&self, alloc: Global, set: &mut BTreeSet<Text>) -> Result<(), AllocError>
+        ensures { OnOk result (AddsNames set.old set.new (flat_map (spec.undeclared_of_choice self.now.shape) self.now.shape.choices)) }
     {
         for choice in 0..self.choices() {
-            self.push_choice(alloc, self.choice_at(choice), names)?;
+            let mut names = Vec::new(alloc);
+            self.push_choice(alloc, self.choice_at(choice), &mut names)?;
+            add_names(set, names)?;
         }
         Ok(())
     }
@@ -199,10 +204,10 @@ impl Tree {
     pub fn undeclared(&self, alloc: Global) -> Result<Vec<Text>, AllocError>
         ensures { IfOk result (λ v. spec.AreUndeclared self.now.shape v.items) }
     {
-        let mut names = Vec::new(alloc);
-        self.push_symbols(alloc, &mut names)?;
-        self.push_choices(alloc, &mut names)?;
-        let names = rising(alloc, distinct(alloc, names)?)?;
+        let mut set = BTreeSet::new(alloc);
+        self.add_symbols(alloc, &mut set)?;
+        self.add_choices(alloc, &mut set)?;
+        let names = rising(alloc, set)?;
         Ok(names)
     }
 }

@@ -1,4 +1,4 @@
--- The clauses of the literals so far stand behind those that were there.
+-- The clauses of the literals so far stand after those that were there.
 use Rattle.std.proofs.Common.{◌≡◌, ◌∷◌, [], ◌++◌, map, take}
 use Rattle.clausify.specs.ClauseForm as spec
 use Rattle.clausify.proofs.builder.push_all.Given as goal

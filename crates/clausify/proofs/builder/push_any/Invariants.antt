@@ -1,4 +1,4 @@
--- The clauses of the literals so far stand behind those that were there.
+-- The clauses of the literals so far stand after those that were there.
 use Rattle.std.proofs.Common.{◌≡◌, ◌∷◌, [], ◌++◌, map, take}
 use Rattle.ut_logic.specs.Clauses.{negated}
 use Rattle.clausify.specs.ClauseForm as spec

@@ -1,4 +1,4 @@
--- What is left, behind what is there, gives the whole.
+-- What is left, after what is there, gives the whole.
 use Rattle.std.proofs.Common.{◌≡◌, ◌∷◌, ◌++◌, drop, map}
 use Rattle.ut_logic.specs.declared.facts.Definition.{Definition}
 use Rattle.ut_logic.specs.Truth.{mentioned, together}

@@ -1,4 +1,4 @@
--- What is left, behind what is there, gives the whole.
+-- What is left, after what is there, gives the whole.
 use Rattle.std.proofs.Common.{◌≡◌, ◌++◌, drop, map}
 use Rattle.clausify.specs.Order.{mentioned_in}
 use Rattle.clausify.proofs.listed.mention_facts.Given as goal

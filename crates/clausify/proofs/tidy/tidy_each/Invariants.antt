@@ -1,4 +1,4 @@
--- The clauses so far are those of the first that are written, behind those that were there.
+-- The clauses so far are those of the first that are written, after those that were there.
 use Rattle.std.proofs.Common.{List, ◌++◌, take}
 use Rattle.ut_logic.specs.declared.literals.Lit.{Lit}
 use Rattle.clausify.specs.Tidy.{AreTidy}

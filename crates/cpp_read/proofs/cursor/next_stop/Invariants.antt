@@ -6,7 +6,7 @@ use Rattle.cpp_read.proofs.cursor.next_stop.Given as goal
 
 abbrev pub invariant-loop-at : goal.invariant-loop-at
 invariant-loop-at l = record {
-  skips : (line : ℕ) → Skips (spliced_bytes line (drop l.fn.at l.bytes)) (spliced_bytes line (drop l.at l.bytes));
+  skips : (line : ℕ) → Skips (spliced_bytes l.fn.at line (drop l.fn.at l.bytes)) (spliced_bytes l.at line (drop l.at l.bytes));
   from : l.fn.at ≤ l.at;
   within : l.at ≤ length l.bytes;
 }

@@ -1,14 +1,17 @@
 use Rattle.std.proofs.Common.{◌≡◌, ◌<◌, true, false, List, take, drop, length, suc, ap, sym, ◌∙◌, refl, subst, arith}
-use Rattle.std.specs.Prelude.{Ok}
+use Rattle.std.specs.Prelude.{Ok, Result}
 use Rattle.std.proofs.lemmas.Result.{err_from_is_err_and}
 use Rattle.std.proofs.Math.Seq.{take-length}
+use Rattle.cpp_directives.specs.declared.bad.CppBad.{CppBad}
+use Rattle.cpp_directives.specs.declared.condition.Cond.{Cond}
 use Rattle.cpp_read.specs.declared.token.Token.{Token}
 use Rattle.cpp_read.specs.Depth.{before_at, parts}
 use Rattle.cpp_read.specs.Depth.{is_group}
 use Rattle.cpp_read.specs.Operands.{is_negation}
 use Rattle.cpp_read.specs.Conditions.{each}
-use Rattle.cpp_read.specs.Refusals.{Fails, Answers}
-use Rattle.cpp_read.proofs.DepthLemmas.{fails_part, next_part, last_part, fails_negated, before_within}
+use Rattle.cpp_directives.specs.Refusals.{Fails, Answers}
+use Rattle.cpp_read.proofs.DepthLemmas.{fails_part, next_part, last_part, before_within}
+use Rattle.cpp_read.proofs.RowLaws.{row_answers, row_fails}
 use Rattle.cpp_read.proofs.reader.+read.Goals as goal
 
 pub read_parts-returns-in_err-part : goal.read_parts-returns-in_err-part
@@ -41,16 +44,16 @@ read_parts-returns t c = λ f r.
     c.in_ok-push.ensures.items
     (c.parts.invariant.left f r)
 
-pub read_negated-returns-in_err-inner : goal.read_negated-returns-in_err-inner
-read_negated-returns-in_err-inner t c = λ f r.
+pub read_row-returns-in_err-operand : goal.read_row-returns-in_err-operand
+read_row-returns-in_err-operand t c = λ f r.
     let p = err_from_is_err_and c.from_residual.result c.from_residual.ensures.1 in
-    rw (p.1, p.2) (fails_negated c.in_err-inner.field-0.0 (f c.args.tokens.now) (c.in_err-inner.ensures f r))
+    rw (p.1, p.2) (row_fails c.args.line f c.args.tokens.now c.after_row.result.now c.in_err-operand.field-0.0 r c.requires c.after_row.ensures.value (c.in_err-operand.ensures f r))
 
-pub read_negated-returns : goal.read_negated-returns
-read_negated-returns t c = λ f r. rw (c.in_ok-inner.ensures f r, c.in_ok-new.ensures) refl
+pub read_row-returns : goal.read_row-returns
+read_row-returns t c = λ f r. row_answers c.args.line f c.args.tokens.now c.after_row.result.now c.row_len-count.result c.in_ok-operand.operand _ r c.requires c.after_row.ensures.value c.row_len-count.ensures.value (c.in_ok-operand.ensures f r) c.in_ok-negated.ensures
 
 pub read_single-returns-then-is_group : goal.read_single-returns-then-is_group
 read_single-returns-then-is_group t c = λ f r.
     let other : is_negation c.args.tokens.now ≡ false = sym c.is_negation.ensures ∙ c.if-is_negation.false in
     let group : is_group c.args.tokens.now ≡ true = sym c.is_group.ensures ∙ c.if-is_group.true in
-    rw (other, group) (subst (λ (ts : List Token). Answers c.read.result (f ts)) c.inside.ensures.value (c.read.ensures f r))
+    rw (other, group) (subst (λ (x : Result Cond CppBad). Answers c.read.result x) (c.core.ensures.same c.args.line f r) (c.read.ensures f r))

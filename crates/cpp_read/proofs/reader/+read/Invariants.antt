@@ -14,8 +14,8 @@ decreases-read_parts l = 3 * length l.tokens.now + 1
 abbrev pub decreases-read_single : goal.decreases-read_single
 decreases-read_single l = 3 * length l.tokens.now + 1
 
-abbrev pub decreases-read_negated : goal.decreases-read_negated
-decreases-read_negated l = 3 * length l.tokens.now + 3
+abbrev pub decreases-read_row : goal.decreases-read_row
+decreases-read_row l = 3 * length l.tokens.now
 
 abbrev pub invariant-read_parts-parts : goal.invariant-read_parts-parts
 invariant-read_parts-parts l = record {

@@ -1,7 +1,7 @@
 -- What is counted and what is left.
 use Rattle.std.proofs.Common.{◌≡◌, ◌+◌, drop}
 use Rattle.std.specs.List.{prefix_len}
-use Rattle.cpp_read.specs.DirectiveLines.{is_white}
+use Rattle.cpp_read.specs.LogicalLines.{is_white}
 use Rattle.cpp_read.proofs.words.white_len.Given as goal
 
 abbrev pub invariant-loop-byte : goal.invariant-loop-byte

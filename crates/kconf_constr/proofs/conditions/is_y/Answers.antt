@@ -1,7 +1,21 @@
 use Rattle.std.proofs.lemmas.Result.{IfOk-weaker}
 use Rattle.kconf_constr.specs.Scope.{whole}
 use Rattle.kconf_constr.proofs.ValueLaws.{is_y_of}
+use Rattle.kconf_constr.specs.declared.level.Level.TheVariants.{IsY}
+use Rattle.kconf_constr.proofs.ClosedLaws.{mentions_of}
+use Rattle.kconf_constr.proofs.DepthLaws.{shallow_of}
+use Rattle.kconf_constr.proofs.FoldedLaws.{folded_of}
+use Rattle.kconf_tree.specs.declared.place.Place.TheVariants.{Condition}
 use Rattle.kconf_constr.proofs.conditions.is_y.Goals as goal
 
 pub returns-clause-means : goal.returns-clause-means
 returns-clause-means c = IfOk-weaker c.formula_in.result _ _ (λ f h v. is_y_of c.whole.result (whole c.args.tree.now.shape) c.args.e.now f h c.whole.ensures v) c.formula_in.ensures
+
+pub returns-clause-mentions : goal.returns-clause-mentions
+returns-clause-mentions c = IfOk-weaker c.formula_in.result _ _ (λ f h. mentions_of c.whole.result (whole c.args.tree.now.shape) c.args.e.now IsY f h c.whole.ensures) c.formula_in.ensures
+
+pub returns-clause-depth : goal.returns-clause-depth
+returns-clause-depth c = IfOk-weaker c.formula_in.result _ _ (λ f h. shallow_of c.whole.result Condition IsY c.args.e.now f h) c.formula_in.ensures
+
+pub returns-clause-folded : goal.returns-clause-folded
+returns-clause-folded c = IfOk-weaker c.formula_in.result _ _ (λ f h. folded_of c.whole.result Condition IsY c.args.e.now f h) c.formula_in.ensures

@@ -7,4 +7,5 @@ use Rattle.model_slice.specs.Found.{has_fact}
 use Rattle.model_slice.proofs.known.name_facts.Given as goal
 
 abbrev pub invariant-loop-fact : goal.invariant-loop-fact
-invariant-loop-fact l = list_all (λ (f : Fact). list_all (has_fact l.facts.list) (names_of l.facts.list f.node)) l.facts.list ≡ list_all (λ (f : Fact). list_all (has_fact l.facts.list) (names_of l.facts.list f.node)) (drop l.fact-index l.fact-items)
+invariant-loop-fact g l = let facts = g.S.FindFact.facts l.fn.store in
+    list_all (λ (f : Fact). list_all (has_fact facts) (names_of facts f.node)) l.list ≡ list_all (λ (f : Fact). list_all (has_fact facts) (names_of facts f.node)) (drop l.fact-index l.list)

@@ -1,7 +1,7 @@
 use Rattle.std.proofs.Common.{◌≡◌, List, subst}
 use Rattle.std.specs.Prelude.{IfOk}
 use Rattle.kconf_tree.specs.Gathered.{gathered}
-use Rattle.ut_verdict.specs.declared.word.Word.{Word}
+use Rattle.ut_case.specs.declared.word.Word.{Word}
 use Rattle.undertaker.specs.Lines.{lines_on}
 use Rattle.undertaker.proofs.ReportLemmas.{on_words}
 use Rattle.undertaker.proofs.gather.lines_of_blocks.Goals as goal

@@ -1,7 +1,7 @@
 use Rattle.std.proofs.Common.{◌≡◌, ◌++◌, sym, subst}
 use Rattle.std.specs.Prelude.{OnOk}
-use Rattle.ut_verdict.specs.declared.word.Word.{Word}
-use Rattle.ut_report.specs.Report.{word_text}
+use Rattle.ut_case.specs.declared.word.Word.{Word}
+use Rattle.ut_report.specs.Lines.{word_text}
 use Rattle.undertaker.proofs.report.add_word.Goals as goal
 
 pub returns-in-Dead : goal.returns-in-Dead

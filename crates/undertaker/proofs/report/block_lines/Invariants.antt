@@ -1,5 +1,5 @@
 use Rattle.std.proofs.Common.{◌≡◌, ◌+◌, ◌++◌, drop, map}
-use Rattle.ut_report.specs.Report.{block_lines}
+use Rattle.undertaker.specs.Report.{block_lines}
 use Rattle.undertaker.specs.Lines.{ended}
 use Rattle.undertaker.proofs.report.block_lines.Given as goal
 

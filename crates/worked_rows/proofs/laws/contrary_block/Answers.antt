@@ -1,4 +1,4 @@
-use Rattle.worked_rows.proofs.Nested.{contrary_first, contrary_second}
+use Rattle.worked_rows.proofs.Dependent.{contrary_first, contrary_second}
 use Rattle.worked_rows.proofs.Reports.{contrary_report}
 use Rattle.worked_rows.proofs.laws.contrary_block.Goals as goal
 

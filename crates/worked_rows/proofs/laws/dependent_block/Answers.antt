@@ -1,4 +1,4 @@
-use Rattle.worked_rows.proofs.Nested.{dependent_first, dependent_second}
+use Rattle.worked_rows.proofs.Dependent.{dependent_first, dependent_second}
 use Rattle.worked_rows.proofs.Reports.{dependent_report}
 use Rattle.worked_rows.proofs.laws.dependent_block.Goals as goal
 

@@ -1,4 +1,4 @@
-use Rattle.worked_rows.proofs.Nested.{repeated_second, implied_second}
+use Rattle.worked_rows.proofs.Dependent.{repeated_second, implied_second}
 use Rattle.worked_rows.proofs.laws.undead_block.Goals as goal
 
 pub returns-clause-repeated : goal.returns-clause-repeated

@@ -1,4 +1,5 @@
 use Rattle.std.proofs.Common.{[], ◌≤◌, sym, ap, ◌∙◌, subst}
+use Rattle.cpp_directives.proofs.ChainLaws.{few_blocks}
 use Rattle.cpp_blocks.specs.Mentions.{names_of}
 use Rattle.cpp_blocks.specs.Nested.{nothing, all_passed}
 use Rattle.cpp_blocks.specs.Turns.{pieces_of}
@@ -10,7 +11,7 @@ invariant_of-result c =
     let ds = c.args.list.items in
     let is = c.parents.view_is ∙ (c.in_ok-parents.ensures ∙ ap (λ xs. all_passed 0 xs nothing) c.deref.ensures.value) in record {
       formed = c.requires;
-      few = subst (λ n. n ≤ 65535) (sym (as_many_blocks ds 1 [])) c.requires.blocks;
+      few = subst (λ n. n ≤ 65535) (sym (as_many_blocks ds 1 [])) (few_blocks ds c.requires);
       parents_are = ap (λ n. n.parents) is ∙ all_parents ds 0 nothing;
       openers_are = ap (λ n. n.openers) is ∙ all_openers ds 0 nothing;
       inner_are = ap (λ n. n.inner) is ∙ all_inner ds 0 nothing;

@@ -1,5 +1,5 @@
 use Rattle.std.proofs.Common.{◌≡◌, ◌≤◌, drop}
-use Rattle.ut_report.specs.Report.{totals_from, totals_of}
+use Rattle.ut_report.specs.Lines.{totals_from, totals_of}
 use Rattle.undertaker.proofs.totals.Totals.of_words.Given as goal
 
 abbrev pub invariant-loop-word : goal.invariant-loop-word

@@ -1,0 +1,6 @@
+-- The clauses so far.
+use Rattle.std.proofs.Common.{◌≡◌, take}
+use Rattle.clausify.proofs.draft.copied.Given as goal
+
+abbrev pub invariant-loop-clause : goal.invariant-loop-clause
+invariant-loop-clause l = l.copies.items ≡ take l.clause-index l.clauses

@@ -1,3 +1,0 @@
-pub mod On
-pub mod Classes
-pub mod Verdicts
