@@ -1,0 +1,3 @@
+pub mod AcceptedLaws
+pub mod Computing
+pub mod OrderLaws
