@@ -1,7 +1,6 @@
 -- Starts that differ in nothing that the source names have the same run, and so have directives that differ in lines.
-use Rattle.std.proofs.Common.{◌≡◌, ℕ, ◌+◌, ◌<◌, zero, suc, Bool, true, false, not, ◌&&◌, ◌||◌, cond, List, [], ◌∷◌, ◌++◌, map, filter, length, refl, sym, ap, ◌∙◌, subst, arith}
-use Rattle.std.specs.List.{All, list_any, list_all, flat_map}
-use Rattle.std.specs.Cmp.{IsEquivalence}
+use Rattle.std.proofs.Common.{◌≡◌, ℕ, Bool, true, false, not, ◌&&◌, ◌||◌, cond, List, [], ◌∷◌, ◌++◌, map, filter, refl, sym, ap, ◌∙◌, subst}
+use Rattle.std.specs.List.{list_any, list_all, flat_map}
 use Rattle.std.proofs.lemmas.Bool.{false≢true}
 use Rattle.std.proofs.lemmas.List.{append-nil}
 use Rattle.std.proofs.lemmas.List.Folds.{list_any-append}
@@ -17,18 +16,16 @@ use Rattle.cpp_directives.specs.declared.directive.Gives.TheVariants.{Zero, Nonz
 use Rattle.cpp_directives.specs.declared.directive.What.{What}
 use Rattle.cpp_directives.specs.declared.directive.What.TheVariants.{If, Elif, Else, Endif, Define, Undef}
 use Rattle.cpp_blocks.specs.declared.pieces.PieceOf.{PieceOf}
-use Rattle.cpp_blocks.specs.declared.starts.StartOf.{StartOf}
-use Rattle.cpp_blocks.specs.declared.starts.BuiltOf.{BuiltOf}
 use Rattle.cpp_blocks.specs.declared.state.MacroState.{MacroState}
 use Rattle.cpp_blocks.specs.declared.state.MacroState.TheVariants.{Undefined, DefinedFalse, DefinedTrue}
 use Rattle.cpp_blocks.specs.Alike.{given_line, free_line, free_lines, AreAlike, DifferInLines, AreSame}
 use Rattle.cpp_blocks.specs.Blocks.{parent_at, next_after, open_after, parents_from}
-use Rattle.cpp_blocks.specs.Facts.{file_fact, is_block, states_from, at_first, facts_of}
+use Rattle.cpp_blocks.specs.Facts.{file_fact, is_block, states_from, at_first}
 use Rattle.cpp_blocks.specs.Formulas.{Source, source_of, turns_after}
 use Rattle.cpp_blocks.specs.Mentions.{with_new, firsts, names_step, names_in, names_at, names_of}
 use Rattle.cpp_blocks.specs.PieceIdentity.{piece_eq, piece_equiv, piece_eq-exact}
 use Rattle.cpp_blocks.specs.Run.{Start, Running, OpenChain, is_defined, is_true, touches, cond_step, holds, opened, turned, closed, sets, given, step, run_from, beginning, run_of}
-use Rattle.cpp_blocks.specs.Steps.{Standing, current, define_fact, undef_fact, fact_at, facts_along, after}
+use Rattle.cpp_blocks.specs.Steps.{Standing, current, define_fact, fact_at, facts_along, after}
 use Rattle.cpp_blocks.specs.Turns.{touched_at, pieces_step, pieces_in, pieces_at, pieces_from, pieces_of}
 use Rattle.cpp_blocks.proofs.Along.{each_front, each_back}
 use Rattle.cpp_blocks.proofs.Meeting.{Each, each_of}
@@ -70,7 +67,7 @@ module _ {A : Type 0} (eq : A → A → Bool) (same : (x : A) → eq x x ≡ tru
       by true e m rest = subst P (sym (exact x y e)) h.0
       by false e m rest = rest m
 
-  each_from : (seen more : List A) → Each P (firsts eq seen more) → Each P more
+  pub each_from : (seen more : List A) → Each P (firsts eq seen more) → Each P more
   each_from seen [] h = tt
   each_from seen (x ∷ more) h = (member x (firsts eq (with_new eq seen x) more) h (among x (with_new eq seen x) more (comes x seen)), each_from (with_new eq seen x) more h)
 

@@ -17,3 +17,6 @@ mod AlikeLaws
 mod OnceLaws
 mod SolutionLaws
 mod RunLaws
+mod GivenLaws
+mod FreeLaws
+mod SaidLaws

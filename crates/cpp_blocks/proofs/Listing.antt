@@ -1,6 +1,6 @@
 -- Facts list what they mention.
 use Rattle.std.proofs.Common.{◌≡◌, ◌⊎◌, inl, inr, ℕ, ◌+◌, zero, suc, Bool, true, false, ◌||◌, cond, List, [], ◌∷◌, ◌++◌, map, filter, slice_get, Some, None, refl, sym, ap, ◌∙◌, subst, arith, append_assoc}
-use Rattle.std.specs.Prelude.{Option, Contains}
+use Rattle.std.specs.Prelude.{Contains}
 use Rattle.std.specs.List.{list_any, flat_map}
 use Rattle.std.specs.Cmp.{eq_by_cmp_equiv}
 use Rattle.std.proofs.lemmas.Bool.{false≢true}
@@ -10,7 +10,6 @@ use Rattle.ut_logic.specs.declared.item.Item.TheVariants as item
 use Rattle.ut_logic.specs.declared.node.Node.{Node}
 use Rattle.ut_logic.specs.declared.node.Node.TheVariants as node
 use Rattle.ut_logic.specs.declared.facts.Definition.{Definition}
-use Rattle.ut_logic.specs.declared.facts.Fact.{Fact}
 use Rattle.ut_logic.specs.declared.formula.Formula.{Formula}
 use Rattle.ut_logic.specs.declared.formula.Formula.TheVariants.{Yes, No, Is}
 use Rattle.ut_logic.specs.Assign.{is_in}
@@ -20,7 +19,7 @@ use Rattle.ut_logic.specs.ItemIdentity.{item_eq-Decides}
 use Rattle.ut_logic.specs.Node.{node_eq, node_total}
 use Rattle.ut_logic.specs.Owners.{owner}
 use Rattle.ut_logic.specs.Truth.{mentioned, together}
-use Rattle.ut_logic.proofs.MentionLaws.{Within, mentioned-Yes, mentioned-No, mentioned-Is, mentioned-all_of, mentioned-any_of, mentioned-not_of}
+use Rattle.ut_logic.proofs.MentionLaws.{mentioned-Yes, mentioned-No, mentioned-Is, mentioned-all_of, mentioned-any_of, mentioned-not_of}
 use Rattle.cpp_directives.specs.declared.condition.Cond.{Cond}
 use Rattle.cpp_directives.specs.declared.condition.Cond.TheOpen.{Cond-F}
 use Rattle.cpp_directives.specs.declared.condition.Cond.TheFolds.{fold-roll-Cond, ind-Cond, map-Cond}
@@ -36,7 +35,7 @@ use Rattle.cpp_blocks.specs.declared.starts.BuiltOf.{BuiltOf}
 use Rattle.cpp_blocks.specs.Facts.{file_fact, start_fact, start_holds, is_free, is_block, states_from, at_first, facts_of}
 use Rattle.cpp_blocks.specs.Formulas.{Source, source_of, Turn, turns_after, piece_in, defined_item, true_item, state_node, formula_step, formula_of, states_in}
 use Rattle.cpp_blocks.specs.Mentions.{names_step, names_in}
-use Rattle.cpp_blocks.specs.Nodes.{IsListedBy, mentioned_in, mentioned_by, IsListed, IsListedFormula, IsListedStart, IsListedBuilt}
+use Rattle.cpp_blocks.specs.Nodes.{IsListedBy, mentioned_in, IsListed, IsListedStart, IsListedBuilt}
 use Rattle.cpp_blocks.specs.Steps.{Standing, current, is_piece, group_formula, group_fact, next_group, given_truth, given_items, state_fact, define_fact, undef_fact, fact_at, facts_along, after}
 use Rattle.cpp_blocks.specs.Turns.{touched_at}
 use Rattle.cpp_blocks.proofs.Along.{each_front, each_back, each_both}
@@ -96,7 +95,7 @@ in_filter p (x ∷ is) i h m = by (item_eq x i) refl m (in_filter p is i h)
 abbrev pub Says : (Item → Type 0) → Formula → Type 0
 Says P f = (i : Item) → is_in (mentioned f) i ≡ true → P i
 
-none_in : (i : Item) → is_in [] i ≡ true → ⊥
+pub none_in : (i : Item) → is_in [] i ≡ true → ⊥
 none_in i h = false≢true h
 
 pub says_none : (P : Item → Type 0) (f : Formula) → mentioned f ≡ [] → Says P f
@@ -117,16 +116,16 @@ says_together P (f ∷ fs) h i m = by (is_in (mentioned f) i) refl (sym (list_an
     by true e k rest = h.0 i e
     by false e k rest = rest k
 
-says_all : (P : Item → Type 0) (fs : List Formula) → Each (Says P) fs → Says P (all_of fs)
+pub says_all : (P : Item → Type 0) (fs : List Formula) → Each (Says P) fs → Says P (all_of fs)
 says_all P fs h i m = says_together P fs h i (mentioned-all_of fs i m)
 
-says_any : (P : Item → Type 0) (fs : List Formula) → Each (Says P) fs → Says P (any_of fs)
+pub says_any : (P : Item → Type 0) (fs : List Formula) → Each (Says P) fs → Says P (any_of fs)
 says_any P fs h i m = says_together P fs h i (mentioned-any_of fs i m)
 
-says_not : (P : Item → Type 0) (f : Formula) → Says P f → Says P (not_of f)
+pub says_not : (P : Item → Type 0) (f : Formula) → Says P f → Says P (not_of f)
 says_not P f h i m = h i (sym (ap (λ is. is_in is i) (mentioned-not_of f)) ∙ m)
 
-says_append : (P : Item → Type 0) (xs ys : List Item) → ((i : Item) → is_in xs i ≡ true → P i) → ((i : Item) → is_in ys i ≡ true → P i) → (i : Item) → is_in (xs ++ ys) i ≡ true → P i
+pub says_append : (P : Item → Type 0) (xs ys : List Item) → ((i : Item) → is_in xs i ≡ true → P i) → ((i : Item) → is_in ys i ≡ true → P i) → (i : Item) → is_in (xs ++ ys) i ≡ true → P i
 says_append P xs ys f g i m = by (is_in xs i) refl (sym (list_any-append (λ x. item_eq x i) xs ys) ∙ m)
   where
     by : (b : Bool) → is_in xs i ≡ b → (b || is_in ys i) ≡ true → P i

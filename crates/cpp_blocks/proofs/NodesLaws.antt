@@ -1,7 +1,7 @@
 -- The facts of a source have just its nodes, in order.
-use Rattle.std.proofs.Common.{◌≡◌, ℕ, ◌+◌, ◌<◌, ◌≤◌, zero, suc, Bool, true, false, ◌||◌, cond, List, [], ◌∷◌, ◌++◌, map, filter, length, length-append, get_or, eqb, refl, sym, ap, ◌∙◌, subst, arith, append_assoc}
+use Rattle.std.proofs.Common.{◌≡◌, ℕ, ◌+◌, ◌<◌, zero, suc, Bool, true, false, cond, List, [], ◌∷◌, ◌++◌, map, filter, length, length-append, get_or, eqb, refl, sym, ap, ◌∙◌, subst, arith}
 use Rattle.std.specs.Prelude.{Ok, is_ok}
-use Rattle.std.specs.List.{list_any, list_all, flat_map}
+use Rattle.std.specs.List.{flat_map}
 use Rattle.std.proofs.lemmas.Bool.{false≢true}
 use Rattle.std.proofs.lemmas.Bool.Decides.{nat_tests}
 use Rattle.std.proofs.lemmas.List.{map-append}
@@ -19,7 +19,7 @@ use Rattle.cpp_directives.proofs.ChainLaws.{next_passes, turning_is}
 use Rattle.cpp_blocks.specs.declared.groups.OpenGroups.{OpenGroups}
 use Rattle.cpp_blocks.specs.declared.starts.StartOf.{StartOf}
 use Rattle.cpp_blocks.specs.declared.starts.BuiltOf.{BuiltOf}
-use Rattle.cpp_blocks.specs.Blocks.{count_of, parent_at, parents_from, next_after, open_after}
+use Rattle.cpp_blocks.specs.Blocks.{parent_at, parents_from, next_after, open_after}
 use Rattle.cpp_blocks.specs.Facts.{file_fact, start_fact, is_block, is_state, states_from, at_first, facts_of}
 use Rattle.cpp_blocks.specs.Formulas.{Source, source_of, turns_after, name_in}
 use Rattle.cpp_blocks.specs.Mentions.{names_at, names_of}

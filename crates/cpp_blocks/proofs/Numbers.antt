@@ -9,7 +9,7 @@ use Rattle.cpp_directives.specs.declared.directive.Directive.{Directive}
 use Rattle.cpp_directives.specs.declared.directive.What.{What}
 use Rattle.cpp_directives.specs.declared.directive.What.TheVariants.{If, Elif, Else, Endif, Define, Undef}
 use Rattle.cpp_blocks.specs.declared.groups.OpenGroups.{OpenGroups}
-use Rattle.cpp_blocks.specs.Blocks.{outside, open_after, parent_at, next_after, parents_from}
+use Rattle.cpp_blocks.specs.Blocks.{open_after, parent_at, next_after, parents_from}
 use Rattle.cpp_blocks.specs.Formulas.{source_of}
 use Rattle.cpp_blocks.specs.Mentions.{with_new, firsts, names_at, names_of, AreEachOnce}
 use Rattle.cpp_blocks.specs.Steps.{Standing, current, after}

@@ -1,10 +1,9 @@
 -- A fact names nodes of its source that stand before it.
-use Rattle.std.proofs.Common.{◌≡◌, ℕ, ◌+◌, ◌-◌, ◌<◌, ◌≤◌, zero, suc, Bool, true, false, ◌||◌, cond, List, [], ◌∷◌, ◌++◌, map, filter, length, length-append, get_or, slice_get, Some, refl, sym, ap, ◌∙◌, subst, arith, append_assoc, ◌⊎◌, inl, inr}
-use Rattle.std.specs.Prelude.{Ok, is_ok}
-use Rattle.std.specs.List.{All, list_any, list_all, flat_map}
+use Rattle.std.proofs.Common.{◌≡◌, ℕ, ◌+◌, ◌-◌, ◌<◌, ◌≤◌, zero, suc, Bool, true, false, ◌||◌, cond, List, [], ◌∷◌, ◌++◌, map, filter, length, length-append, get_or, refl, sym, ap, ◌∙◌, subst, arith, append_assoc}
+use Rattle.std.specs.Prelude.{is_ok}
+use Rattle.std.specs.List.{list_any, list_all, flat_map}
 use Rattle.std.proofs.Math.ListN.{get_or-append}
 use Rattle.std.proofs.Math.Seq.{get_or-append_seam}
-use Rattle.std.proofs.lemmas.Bool.{false≢true, cases_lt}
 use Rattle.std.proofs.lemmas.List.{append-nil}
 use Rattle.std.proofs.lemmas.List.Concat.{flat_map-append}
 use Rattle.ut_text.specs.Text.{text_eq, text_equiv}
@@ -13,25 +12,24 @@ use Rattle.ut_logic.specs.declared.node.Node.TheVariants as node
 use Rattle.ut_logic.specs.declared.facts.Fact.{Fact}
 use Rattle.ut_logic.specs.declared.formula.Formula.{Formula}
 use Rattle.cpp_directives.specs.declared.directive.Directive.{Directive}
-use Rattle.cpp_directives.specs.declared.directive.Gives.{Gives}
 use Rattle.cpp_directives.specs.declared.directive.What.{What}
 use Rattle.cpp_directives.specs.declared.directive.What.TheVariants.{If, Elif, Else, Endif, Define, Undef}
-use Rattle.cpp_directives.specs.Chains.{Earlier, passing, part_of}
+use Rattle.cpp_directives.specs.Chains.{Earlier}
 use Rattle.cpp_directives.specs.WellFormed.{all_passing, IsWellFormed}
 use Rattle.cpp_directives.proofs.ChainLaws.{next_passes}
 use Rattle.cpp_blocks.specs.declared.groups.OpenGroups.{OpenGroups}
 use Rattle.cpp_blocks.specs.declared.starts.StartOf.{StartOf}
 use Rattle.cpp_blocks.specs.declared.starts.BuiltOf.{BuiltOf}
-use Rattle.cpp_blocks.specs.Blocks.{count_of, parents_of, parent_at}
+use Rattle.cpp_blocks.specs.Blocks.{count_of, parent_at}
 use Rattle.cpp_blocks.specs.Facts.{file_fact, start_fact, is_block, states_from, at_first, facts_of}
-use Rattle.cpp_blocks.specs.Formulas.{Source, source_of, turns_after, name_in, state_node, formula_of, states_in}
+use Rattle.cpp_blocks.specs.Formulas.{source_of, turns_after, name_in, state_node, formula_of, states_in}
 use Rattle.cpp_blocks.specs.Mentions.{names_at, names_in, names_of}
 use Rattle.cpp_blocks.specs.Nesting.{opener_at, openers_from, opener_of}
 use Rattle.cpp_blocks.specs.Nodes.{turn_place, rank_of, IsBelow, IsOrderly, IsOfTree, IsListedStart, IsListedBuilt}
 use Rattle.cpp_blocks.specs.Steps.{Standing, current, group_fact, next_group, define_fact, undef_fact, fact_at, facts_along, after}
 use Rattle.cpp_blocks.specs.Steps as Steps
 use Rattle.cpp_blocks.specs.Turns.{touched_at, touched_in, turn_of}
-use Rattle.cpp_blocks.proofs.Along.{AllKnown, each_front, each_back, each_both}
+use Rattle.cpp_blocks.proofs.Along.{AllKnown, each_both}
 use Rattle.cpp_blocks.proofs.CondTruth.{is_known, Known, known_front, known_back, and_front, and_back}
 use Rattle.cpp_blocks.proofs.Listing.{start_member}
 use Rattle.cpp_blocks.proofs.Meeting.{Each, each_of, all_of_each}

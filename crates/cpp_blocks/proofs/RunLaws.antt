@@ -1,6 +1,5 @@
 -- What is kept of a run is what the run has.
 use Rattle.std.proofs.Common.{◌≡◌, ℕ, ◌+◌, ◌<◌, length, get_or, drop, Bool, true, false, ◌&&◌, cond, List, [], ◌∷◌, ◌++◌, map, refl, sym, ap, ◌∙◌, subst}
-use Rattle.std.specs.List.{list_any, list_all}
 use Rattle.std.proofs.lemmas.List.{append-nil, at_drop_more}
 use Rattle.ut_text.specs.Text.{text_eq}
 use Rattle.cpp_directives.specs.declared.condition.Cond.{Cond}
@@ -16,7 +15,7 @@ use Rattle.cpp_blocks.specs.declared.running.RunPlace.{RunPlace}
 use Rattle.cpp_blocks.specs.declared.running.RunSoFar.{RunSoFar}
 use Rattle.cpp_blocks.specs.declared.state.MacroState.{MacroState}
 use Rattle.cpp_blocks.specs.declared.state.MacroState.TheVariants.{Undefined}
-use Rattle.cpp_blocks.specs.Counted.{IsCounted, piece_turn}
+use Rattle.cpp_blocks.specs.Counted.{IsCounted}
 use Rattle.cpp_blocks.specs.Run.{Start, OpenChain, Running, cond_step, holds, opened, turned, closed, sets, given, step, beginning, run_from, touches}
 use Rattle.cpp_blocks.specs.RunGiven.{state_in}
 use Rattle.cpp_blocks.specs.RunSteps.{open_chain, kept, plain, start_at, state_at, piece_at, start_by, running_by, holds_by, holds_at, StandsAs}

@@ -1,8 +1,7 @@
 -- What a run rests on: the states at the start of the macros that the source names, the truths of its opaque pieces, and
 -- those of its `#define` lines whose body is no number; nothing looks at the lines of other directives. This project's rule.
-use Rattle.std.specs.Prelude.{◌≡◌, ℕ, List, [], ◌∷◌, ◌++◌, All, map}
+use Rattle.std.specs.Prelude.{◌≡◌, ℕ, List, [], ◌∷◌, All}
 use Rattle.std.specs.List.{flat_map}
-use Rattle.ut_logic.specs.declared.facts.Fact.{Fact}
 use Rattle.cpp_directives.specs.declared.directive.Directive.{Directive}
 use Rattle.cpp_directives.specs.declared.directive.Gives.{Gives}
 use Rattle.cpp_directives.specs.declared.directive.Gives.TheVariants.{Zero, Nonzero, Free}

@@ -15,6 +15,7 @@ pub mod Gathered
 pub mod Nodes
 pub mod Solution
 pub mod Alike
+pub mod Given
 pub mod Once
 pub mod StartWith
 pub mod RunStage

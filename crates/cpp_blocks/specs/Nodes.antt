@@ -2,7 +2,7 @@
 -- states, at the start and after each of its lines. A fact names nodes of symbols, and nodes of its own source that
 -- stand before it; each item that it mentions is its own source's choice or a start's, and then it lists it, or it
 -- belongs to a node that it names. This project's rule.
-use Rattle.std.specs.Prelude.{◌≡◌, ◌⊎◌, ℕ, zero, suc, ◌<◌, ◌≤◌, Bool, true, Option, None, Some, List, [], ◌∷◌, ◌++◌, All, Contains, length, get_or, if◌then◌else◌}
+use Rattle.std.specs.Prelude.{◌≡◌, ◌⊎◌, ℕ, zero, suc, ◌<◌, ◌≤◌, true, None, Some, List, [], ◌∷◌, ◌++◌, All, Contains, length, get_or, if◌then◌else◌}
 use Rattle.std.specs.List.{list_any, flat_map}
 use Rattle.ut_text.specs.Bytes.{Bytes}
 use Rattle.ut_text.specs.Text.{text_eq}
@@ -104,6 +104,10 @@ IsOfFile file _ = Unit {0}
 abbrev pub MentionsOwn : ℕ → Fact → Type 0
 MentionsOwn file f = (i : Item) → is_in (mentioned_by f) i ≡ true → IsOfFile file i
 
+-- a fact lists items of its own node, and beside them such as no node has
+abbrev pub ListsOwn : Fact → Type 0
+ListsOwn f = (i : Item) → is_in f.items i ≡ true → (owner i ≡ None) ⊎ (owner i ≡ Some f.node)
+
 -- ---- what is handed in
 
 -- whether a node is a symbol or a choice
@@ -127,3 +131,11 @@ pub record IsListedStart (s : StartOf) : Type 0 where
 pub record IsListedBuilt (built : BuiltOf) : Type 0 where
   pub nodes : All IsOfTree built.names
   pub formula : IsListedFormula built.names built.items built.formula
+
+-- items that no node has
+abbrev pub AreLoose : List Item → Type 0
+AreLoose items = (i : Item) → is_in items i ≡ true → owner i ≡ None
+
+-- a symbol or a choice that a fact names is one that a start or the source's condition names
+abbrev pub NamesGiven : List StartOf → BuiltOf → Fact → Type 0
+NamesGiven starts built f = (n : Node) → Contains f.names n → IsOfTree n → Contains built.names n ⊎ ((s : StartOf) × Contains starts s × Contains s.names n)

@@ -1,5 +1,5 @@
 -- Names, pieces and free lines of a source are each once. This project's rule.
-use Rattle.std.specs.Prelude.{◌≡◌, ℕ, ◌==◌, List}
+use Rattle.std.specs.Prelude.{ℕ, ◌==◌, List}
 use Rattle.ut_text.specs.Text.{text_eq}
 use Rattle.cpp_directives.specs.declared.directive.Directive.{Directive}
 use Rattle.cpp_directives.specs.WellFormed.{IsWellFormed}

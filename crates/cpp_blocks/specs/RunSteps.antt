@@ -1,6 +1,6 @@
 -- What the functions of a run promise each other.
 -- This project's own; no contract of a public call rests on it.
-use Rattle.std.specs.Prelude.{◌≡◌, Bool, false, List, [], map}
+use Rattle.std.specs.Prelude.{◌≡◌, Bool, false, [], map}
 use Rattle.ut_text.specs.Bytes.{Bytes}
 use Rattle.cpp_directives.specs.declared.condition.Cond.{Cond}
 use Rattle.cpp_blocks.specs.declared.run_blocks.RunChain.{RunChain}

@@ -1,6 +1,6 @@
 -- The start of a run that is handed in as lists: macros and opaque pieces in the order in which the source numbers
 -- them, and the lines that give a true macro. This project's own form.
-use Rattle.std.specs.Prelude.{Bool, false, nat_eq, List, get_or}
+use Rattle.std.specs.Prelude.{false, nat_eq, List, get_or}
 use Rattle.std.specs.List.{list_any, position_or_len}
 use Rattle.ut_text.specs.Text.{text_eq}
 use Rattle.cpp_directives.specs.declared.directive.Directive.{Directive}

@@ -31,7 +31,9 @@ mod turns;
 pub use blocks::Blocks;
 pub use cpp_directives::is_well_formed;
 pub use laws::{
-    lines_matter_where_truths_are_free, names_pieces_and_lines_are_once, runs_rest_on_what_is_named,
+    facts_are_orderly, facts_are_the_run, facts_list_their_own, facts_mention_their_own,
+    lines_matter_where_truths_are_free, names_pieces_and_lines_are_once,
+    runs_rest_on_what_is_named,
 };
 pub use pieces::PieceOf;
 pub use running::{RunStart, blocks_on};

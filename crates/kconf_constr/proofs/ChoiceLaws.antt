@@ -15,7 +15,7 @@ use Rattle.kconf_tree.specs.declared.shape.Counts.TheVariants as counts
 use Rattle.kconf_tree.specs.Shape.{counts_as, choice_at}
 use Rattle.kconf_tree.specs.Value.{Configuration, has_modules}
 use Rattle.kconf_tree.specs.Properties.{visibility_of, choice_visibility_of}
-use Rattle.kconf_tree.specs.Valid.{is_y, lets_y, lets_m, can_be_y, can_be_m, allows_mode, choice_counts, has_allowed_mode}
+use Rattle.kconf_tree.specs.Valid.{is_y, lets_y, lets_m, can_be_y, can_be_m, allows_mode, choice_counts}
 use Rattle.kconf_tree.specs.Right.{is_m, is_n, keeps_mode, has_one_y, is_right_choice}
 use Rattle.kconf_tree.proofs.Small.{and_left, and_right}
 use Rattle.kconf_constr.specs.Scope.{Scope}
@@ -23,10 +23,10 @@ use Rattle.kconf_constr.specs.Levels.{Levels, modules_formula}
 use Rattle.kconf_constr.specs.PropertyFormulas.{visibility_levels}
 use Rattle.kconf_constr.specs.Stands.{read_off, value_as, mode_as, has_one_as, has_one_value, has_one_mode_as, has_one_mode}
 use Rattle.kconf_constr.specs.Closed.{IsTrit}
-use Rattle.kconf_constr.specs.ChoiceFormulas.{lets_y_as, can_y, member_y_holds, m_holds_as, member_m_holds, not_both, pairs, are_y, some_holds, choice_levels, bool_mode, one_mode, seen_modes, some_mode, tristate_mode, bool_choice_holds, tristate_choice_holds, choice_holds_as, choice_holds}
+use Rattle.kconf_constr.specs.ChoiceFormulas.{lets_y_as, can_y, member_y_holds, m_holds_as, member_m_holds, not_both, pairs, are_y, some_holds, choice_levels, bool_mode, tristate_mode, bool_choice_holds, tristate_choice_holds, choice_holds_as, choice_holds}
 use Rattle.kconf_constr.proofs.ValueLaws.{Stands, modules_truth}
 use Rattle.kconf_constr.proofs.PropertyLaws.{all_append, greatest_stands, visibility_stands}
-use Rattle.kconf_constr.proofs.MemberTests.{each_can, apart_test, pairs_test, some_test, y_test, m_test, kept_test, by_one, tristate_mode_test, tristate_mode_is, bool_mode_test, bool_mode_is, one_law, both_lists, all_then, none_then, assembled}
+use Rattle.kconf_constr.proofs.MemberTests.{apart_test, pairs_test, some_test, y_test, m_test, by_one, tristate_mode_test, tristate_mode_is, bool_mode_test, bool_mode_is, one_law, both_lists, all_then, none_then, assembled}
 
 -- whether a member that counts as this has its second item
 abbrev pub m_as : Counts → (Item → Bool) → ℕ → Bool

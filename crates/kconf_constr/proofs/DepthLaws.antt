@@ -1,5 +1,5 @@
 -- The formulas of an expression are at most five deeper than the expression is nested.
-use Rattle.std.proofs.Common.{◌≡◌, ℕ, ◌+◌, ◌≤◌, max, Bool, true, false, not, cond, List, [], ◌∷◌, map, filter, refl, ap, sym, subst, ◌∙◌, Option, None, Some, arith, rules}
+use Rattle.std.proofs.Common.{◌≡◌, ℕ, ◌+◌, ◌≤◌, max, Bool, true, false, not, cond, List, [], ◌∷◌, map, filter, refl, sym, subst, ◌∙◌, Option, None, Some, arith, rules}
 use Rattle.std.specs.List.{list_any}
 use Rattle.ut_logic.specs.declared.trit.Trit.{Trit}
 use Rattle.ut_logic.specs.declared.trit.Trit.TheVariants.{N, M, Y}

@@ -1,5 +1,5 @@
 -- The formulas that hold for a node are at most thirteen deeper than the tree's expressions are nested.
-use Rattle.std.proofs.Common.{◌≡◌, ℕ, ◌+◌, ◌≤◌, max, Bool, true, false, cond, List, [], ◌∷◌, ◌++◌, map, All, subst, sym, ap, ◌∙◌, arith}
+use Rattle.std.proofs.Common.{◌≡◌, ℕ, ◌+◌, ◌≤◌, Bool, true, false, cond, List, [], ◌∷◌, ◌++◌, map, All, subst, sym, ap, ◌∙◌, arith}
 use Rattle.std.specs.List.{flat_map, AllByRecursion}
 use Rattle.std.proofs.lemmas.List.Elements.{All-from_recursion, recursion_from_All}
 use Rattle.ut_logic.specs.declared.item.Item.TheVariants.{SymY, SymM, ModeY, ModeM}
@@ -19,7 +19,7 @@ use Rattle.kconf_constr.specs.declared.level.Level.{Level}
 use Rattle.kconf_constr.specs.declared.level.Level.TheVariants.{NotN, IsY}
 use Rattle.kconf_constr.specs.Scope.{Scope}
 use Rattle.kconf_constr.specs.Levels.{Levels, levels, at_level, own_levels, modules_formula}
-use Rattle.kconf_constr.specs.PropertyFormulas.{condition_at, greatest_levels, visibility_levels, selected_at, selecting_levels, is_passed, default_part, default_parts, default_at, first_levels, weakened, default_by, default_levels}
+use Rattle.kconf_constr.specs.PropertyFormulas.{condition_at, greatest_levels, visibility_levels, selected_at, selecting_levels, is_passed, default_part, default_parts, first_levels, weakened, default_by}
 use Rattle.kconf_constr.specs.SymbolFormulas.{Properties, properties_of, raised, allowed, kept, base_holds, one_holds, y_raised, y_allowed, y_kept, y_holds, holds_as, symbol_holds}
 use Rattle.kconf_constr.specs.ChoiceFormulas.{lets_y_as, can_y, member_y_holds, m_holds_as, not_both, pairs, are_y, some_holds, choice_levels, bool_mode, one_mode, seen_modes, some_mode, tristate_mode, choice_holds_as, choice_holds}
 use Rattle.kconf_constr.specs.FactsOf.{facts_of}

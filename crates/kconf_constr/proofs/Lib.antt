@@ -18,3 +18,4 @@ mod HeldDepth
 mod OuterLaws
 mod MadeOf
 mod FoldedLaws
+mod ListsLaws

@@ -1,5 +1,5 @@
 -- What holds of Yes, No and items, and of what is folded from formulas of which it holds, holds of each formula of a tree.
-use Rattle.std.proofs.Common.{◌≡◌, ℕ, Bool, true, false, cond, List, [], ◌∷◌, ◌++◌, map, All, subst, sym, ap, ◌∙◌, Option, None, Some}
+use Rattle.std.proofs.Common.{ℕ, Bool, true, false, cond, List, [], ◌∷◌, ◌++◌, map, All, subst, Option, None, Some}
 use Rattle.std.specs.List.{flat_map, AllByRecursion}
 use Rattle.std.proofs.lemmas.List.Elements.{All-from_recursion}
 use Rattle.ut_logic.specs.declared.trit.Trit.{Trit}
@@ -30,7 +30,7 @@ use Rattle.kconf_constr.specs.declared.level.Level.{Level}
 use Rattle.kconf_constr.specs.declared.level.Level.TheVariants.{NotN, IsY}
 use Rattle.kconf_constr.specs.Scope.{Scope, number_among}
 use Rattle.kconf_constr.specs.Levels.{Levels, both, levels, levels_step, at_level, value_levels, const_levels, own_levels, own_levels_as, named_levels, undeclared_formula, outer_formula, modules_formula, side_levels, same, both_y, both_n, both_m, compared, comparison_formula}
-use Rattle.kconf_constr.specs.PropertyFormulas.{condition_at, greatest_levels, visibility_levels, selected_at, selecting_levels, is_passed, default_part, default_parts, default_at, first_levels, weakened, default_by}
+use Rattle.kconf_constr.specs.PropertyFormulas.{condition_at, greatest_levels, visibility_levels, selected_at, selecting_levels, is_passed, default_parts, first_levels, weakened, default_by}
 use Rattle.kconf_constr.specs.SymbolFormulas.{Properties, properties_of, base_holds, one_holds, y_holds, holds_as, symbol_holds}
 use Rattle.kconf_constr.specs.ChoiceFormulas.{lets_y_as, can_y, member_y_holds, m_holds_as, not_both, pairs, are_y, some_holds, choice_levels, bool_mode, one_mode, seen_modes, some_mode, tristate_mode, choice_holds_as, choice_holds}
 use Rattle.kconf_constr.specs.FactsOf.{facts_of}

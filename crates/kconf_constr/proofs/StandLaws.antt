@@ -1,43 +1,42 @@
 -- Truths of items and configurations: what a configuration's own truths meet, and what truths that meet facts stand for.
-use Rattle.std.proofs.Common.{◌≡◌, ℕ, zero, suc, ◌<◌, ◌≤◌, ◌==◌, Bool, true, false, not, ◌&&◌, ◌||◌, cond, Option, None, Some, List, [], ◌∷◌, ◌++◌, map, length, get_or, All, is_some, refl, ap, sym, subst, ◌∙◌, arith, ◌⊎◌, inl, inr, position, max}
+use Rattle.std.proofs.Common.{◌≡◌, ℕ, zero, suc, ◌<◌, ◌≤◌, ◌==◌, Bool, true, false, not, ◌&&◌, cond, Option, None, Some, List, [], ◌∷◌, map, length, get_or, All, is_some, refl, ap, sym, subst, ◌∙◌, arith, ◌⊎◌, inl, inr, position}
 use Rattle.std.proofs.lemmas.Bool.{false≢true}
 use Rattle.std.proofs.lemmas.Bool.Decides.{nat_tests}
 use Rattle.std.specs.List.{list_any, Contains, AllByRecursion}
 use Rattle.std.specs.Ordering.{is_eq}
 use Rattle.std.specs.declared.cmp.Ordering.{Ordering}
 use Rattle.std.specs.declared.cmp.Ordering.TheVariants.{Less, Equal, Greater}
-use Rattle.std.proofs.lemmas.List.Elements.{All-contains, All-contains_itself, All-from_recursion, recursion_from_All, Contains-get_or}
+use Rattle.std.proofs.lemmas.List.Elements.{All-contains, All-contains_itself, All-from_recursion, recursion_from_All}
 use Rattle.std.proofs.lemmas.List.Quantifiers.{position-Some}
 use Rattle.ut_text.specs.Text.{text_eq, text_eq-exact, text_equiv, text_ties, text_cmp}
 use Rattle.ut_logic.specs.declared.item.Item.{Item}
-use Rattle.ut_logic.specs.declared.item.Item.TheVariants.{SymY, SymM, Undeclared, ModeY, ModeM}
+use Rattle.ut_logic.specs.declared.item.Item.TheVariants.{SymY, SymM, ModeY, ModeM}
 use Rattle.ut_logic.specs.declared.node.Node.{Node}
 use Rattle.ut_logic.specs.declared.node.Node.TheVariants.{Sym, Choice, Block, State}
 use Rattle.ut_logic.specs.Node.{node_eq}
 use Rattle.ut_logic.specs.NodeIdentity.{node_eq-Decides}
-use Rattle.ut_logic.specs.declared.facts.Fact.{Fact}
-use Rattle.ut_logic.specs.Facts.{Meets, MeetsAll}
+use Rattle.ut_logic.specs.Facts.{MeetsAll}
 use Rattle.kconf_tree.specs.declared.shape.Counts.{Counts}
 use Rattle.kconf_tree.specs.declared.shape.Counts.TheVariants as counts
-use Rattle.kconf_tree.specs.Shape.{symbol_at, choice_at, counts_as, is_member}
-use Rattle.kconf_tree.specs.Value.{Configuration, HasValues, has_modules}
+use Rattle.kconf_tree.specs.Shape.{symbol_at, choice_at, counts_as}
+use Rattle.kconf_tree.specs.Value.{Configuration, has_modules}
 use Rattle.kconf_tree.specs.Properties.{visibility_of, choice_visibility_of}
-use Rattle.kconf_tree.specs.Valid.{promoted, lets_m, choice_counts, allows_mode, KeepsMode, IsRightChoice, HasValueBy, KeepsRules}
+use Rattle.kconf_tree.specs.Valid.{promoted, lets_m, choice_counts, allows_mode, KeepsMode, KeepsRules}
 use Rattle.kconf_tree.specs.Undeclared.{undeclared_of}
 use Rattle.kconf_tree.specs.References.{node_by, node_of, references_of, symbol_references, choice_references}
-use Rattle.kconf_tree.specs.WellMade.{is_among, IsWellMade, IsNodeOf}
+use Rattle.kconf_tree.specs.WellMade.{IsWellMade, IsNodeOf}
 use Rattle.kconf_tree.specs.Looks.{AreSameIn}
-use Rattle.kconf_tree.specs.Parts.{Holds, part_of_nodes, IsClosedPart, IsRightPart}
-use Rattle.kconf_tree.proofs.Small.{and_left, and_right, or_left, or_right, number_is}
+use Rattle.kconf_tree.specs.Parts.{Holds, part_of_nodes, IsClosedPart}
+use Rattle.kconf_tree.proofs.Small.{or_left, or_right}
 use Rattle.kconf_tree.proofs.GraphOrders.{any_contains}
 use Rattle.kconf_tree.proofs.ReferenceLaws.{choice_within}
 use Rattle.kconf_tree.proofs.RightChoices.{mode_small}
 use Rattle.kconf_tree.proofs.SameIn.{rules_same}
 use Rattle.kconf_constr.specs.Scope.{Scope, IsRising, number_among}
-use Rattle.kconf_constr.specs.Stands.{truths_of, value_as, mode_as, undeclared_truth, read_off, has_one_as, has_one_value, has_one_mode_as, has_one_mode}
+use Rattle.kconf_constr.specs.Stands.{truths_of, value_as, mode_as, undeclared_truth, read_off, has_one_as, has_one_value, has_one_mode_as}
 use Rattle.kconf_constr.specs.FactsOf.{own_items, mode_items, choice_of, names_by, choice_names, symbol_fact, choice_fact, facts_of}
 use Rattle.kconf_constr.specs.Meaning.{SymbolIsRight, ChoiceIsRight, HaveOneValue}
-use Rattle.kconf_constr.specs.Standing.{items_of, StandsFor, IsCovered, AreClosed, MeetsOn, SomeConfiguration}
+use Rattle.kconf_constr.specs.Standing.{items_of, IsCovered, AreClosed, MeetsOn, SomeConfiguration}
 use Rattle.kconf_constr.proofs.EachFact.{of_symbol, of_choice}
 use Rattle.kconf_constr.proofs.Lists.{front, back, unmapped}
 use Rattle.kconf_constr.proofs.Searching.{found_at}
@@ -158,7 +157,7 @@ module _ (s : Scope) (made : IsWellMade s.shape) (c : Configuration) (covered : 
           off false h = h
           off true h = absurd (none_listed s.undeclared name e (covered name there h))
 
-  same : AreSameIn s.shape c (read_off s (truths_of s c))
+  pub same : AreSameIn s.shape c (read_off s (truths_of s c))
   same = record {
     values = λ k lt. value_read s c (counts_as s.shape k) k (value_is k lt);
     modes = λ i lt. mode_read s c (choice_counts s.shape i) i (mode_small s.shape c i (rules.choices i lt))
@@ -315,6 +314,7 @@ module _ (s : Scope) (made : IsWellMade s.shape) (nodes : List Node) (closed : A
     pub some_configuration : IsRising s.undeclared → SomeConfiguration s nodes v
     some_configuration up = record {
       configuration = read_off s v;
+      read = refl;
       values = λ k. small s made v (counts_as s.shape k) k;
       stands = record {
         items = items_back;

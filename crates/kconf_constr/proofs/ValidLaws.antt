@@ -15,7 +15,7 @@ use Rattle.kconf_entries.specs.declared.entries.Kind.TheVariants as kind
 use Rattle.kconf_tree.specs.Shape.{Shape, symbol_at, choice_at, counts_as, counts_in, counts_with, is_member, is_the}
 use Rattle.kconf_tree.specs.WellMade.{IsWellMade, is_among}
 use Rattle.kconf_tree.specs.Value.{Configuration}
-use Rattle.kconf_tree.specs.Valid.{choice_counts, IsRightChoice, KeepsRules, IsValid}
+use Rattle.kconf_tree.specs.Valid.{choice_counts, KeepsRules, IsValid}
 use Rattle.kconf_tree.specs.Right.{IsRight, is_right, is_right_choice}
 use Rattle.kconf_tree.proofs.Small.{and_left, and_right, both_true, or_right, or_cases, number_is, number_self}
 use Rattle.kconf_tree.proofs.MadeLaws.{member_within}

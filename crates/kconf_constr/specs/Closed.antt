@@ -1,12 +1,13 @@
 -- What the formulas of a fact may mention: items that fit the tree, of its own node and of those that it names, and the loose
 -- items that it lists. This project's rule.
-use Rattle.std.specs.Prelude.{◌≡◌, ◌⊎◌, ℕ, ◌<◌, true, All, Contains, length, map}
+use Rattle.std.specs.Prelude.{◌≡◌, ◌⊎◌, ℕ, ◌<◌, true, Some, None, All, Contains, length, map}
 use Rattle.ut_logic.specs.declared.item.Item.{Item}
 use Rattle.ut_logic.specs.declared.item.Item.TheVariants as item
 use Rattle.ut_logic.specs.declared.node.Node.{Node}
 use Rattle.ut_logic.specs.declared.node.Node.TheVariants.{Sym, Choice}
 use Rattle.ut_logic.specs.declared.facts.Fact.{Fact}
 use Rattle.ut_logic.specs.Assign.{is_in}
+use Rattle.ut_logic.specs.Owners.{owner}
 use Rattle.ut_logic.specs.Truth.{mentioned, together}
 use Rattle.kconf_tree.specs.declared.shape.Counts.{Counts}
 use Rattle.kconf_tree.specs.declared.shape.Counts.TheVariants as counts
@@ -72,6 +73,10 @@ NamesNodes t fact = All (IsNodeOf t) fact.names
 -- the outer conditions that a fact lists are those that its formulas mention
 abbrev pub ListsOuters : Fact → Type 0
 ListsOuters fact = (k : ℕ) → is_in fact.items (item.Outer k) ≡ is_in (together (map mentioned fact.holds)) (item.Outer k)
+
+-- each item that a fact lists fits, and is one of its own node, or such as no node has
+abbrev pub ListsFitting : Scope → Fact → Type 0
+ListsFitting s fact = (i : Item) → is_in fact.items i ≡ true → Fits s i × ((owner i ≡ Some fact.node) ⊎ (owner i ≡ None))
 
 -- ---- the formula of a condition
 

@@ -15,7 +15,7 @@ use Rattle.kconf_tree.specs.Undeclared.{undeclared_of}
 use Rattle.kconf_tree.specs.WellMade.{IsNodeOf}
 use Rattle.kconf_tree.specs.Parts.{part_of_nodes, IsRightPart}
 use Rattle.kconf_constr.specs.Scope.{Scope}
-use Rattle.kconf_constr.specs.Stands.{truths_of}
+use Rattle.kconf_constr.specs.Stands.{truths_of, read_off}
 use Rattle.kconf_constr.specs.FactsOf.{own_items, mode_items, facts_of}
 
 -- the items of a node
@@ -45,9 +45,11 @@ pub record AreClosed (s : Scope) (nodes : List Node) : Type 0 where
 abbrev pub MeetsOn : Scope → List Node → (Item → Bool) → Type 0
 MeetsOn s nodes v = (fact : Fact) → Contains (facts_of s) fact → Contains nodes fact.node → Meets v fact
 
--- some configuration for which the truths stand on the nodes, and under which each of these is right
+-- some configuration for which the truths stand on the nodes, and under which each of these is right: the one that is read
+-- off them, so that every name off the list is n, and every outer condition has its item's truth
 pub record SomeConfiguration (s : Scope) (nodes : List Node) (v : Item → Bool) : Type 0 where
   pub configuration : Configuration
+  pub read : configuration ≡ read_off s v
   pub values : HasValues configuration
   pub stands : StandsFor s nodes v configuration
   pub right : IsRightPart s.shape configuration (part_of_nodes nodes)

@@ -1,9 +1,8 @@
 -- What truths of items and a configuration say of each other.
 -- This project's rule.
-use Rattle.std.specs.Prelude.{◌≡◌, ℕ, ◌==◌, ◌<◌, Bool, true, false, not, ◌&&◌, List, [], Option, None, Some, Contains, length, slice_index_or, if◌then◌else◌}
+use Rattle.std.specs.Prelude.{ℕ, ◌==◌, Bool, true, false, not, ◌&&◌, [], Option, None, Some, slice_index_or, if◌then◌else◌}
 use Rattle.ut_logic.specs.declared.item.Item.{Item}
 use Rattle.ut_logic.specs.declared.item.Item.TheVariants.{SymY, SymM, Undeclared, ModeY, ModeM, Outer}
-use Rattle.ut_logic.specs.declared.node.Node.{Node}
 use Rattle.kconf_tree.specs.declared.shape.Counts.{Counts}
 use Rattle.kconf_tree.specs.declared.shape.Counts.TheVariants as counts
 use Rattle.kconf_tree.specs.Shape.{Shape, counts_as}

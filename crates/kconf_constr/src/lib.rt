@@ -23,5 +23,8 @@ mod writing;
 pub use conditions::{free_not_n, is_y, not_n};
 pub use facts::{constraints, free_constraints};
 pub use items::loose_items;
-pub use laws::{closed_nodes_are_a_part, rules_meet_facts, truths_stand};
+pub use laws::{
+    closed_nodes_are_a_part, facts_are_closed, formulas_say_written, rules_meet_facts,
+    truths_are_read_back, truths_stand,
+};
 pub use writing::{free_written, written};

@@ -21,7 +21,7 @@ use Rattle.ut_case.specs.declared.question.Family.TheVariants as family
 use Rattle.ut_case.specs.Built.{kbuild_number}
 use Rattle.ut_case.specs.Numbering.{Shared}
 use Rattle.ut_case.specs.Problem.{Basis, OfTree, OfRules}
-use Rattle.ut_case.specs.StartFormulas.{scope_of, symbol_nodes}
+use Rattle.ut_case.specs.StartFormulas.{owners_in, scope_of, symbol_nodes}
 
 -- that a name of a model text is true, by its number
 abbrev pub rule_formula : Option ℕ → Formula
@@ -53,11 +53,11 @@ step_nodes b (step.Free text) = []
 abbrev pub paths_formula : Shared → Family → List (List Step) → Formula
 paths_formula s f paths = any_of (map (λ path. all_of (map (step_formula s f) path)) paths)
 
--- with its nodes and its loose items
+-- it names the nodes of its symbols, and those of all that it mentions; its loose items stand beside it
 abbrev pub paths_built : Shared → Family → List (List Step) → BuiltOf
 paths_built s f paths = record {
   formula = paths_formula s f paths;
-  names = flat_map (flat_map (step_nodes s.basis)) paths;
+  names = flat_map (flat_map (step_nodes s.basis)) paths ++ owners_in (paths_formula s f paths ∷ []);
   items = loose_items (paths_formula s f paths ∷ []);
 }
 

@@ -1,0 +1,16 @@
+pub mod ApartLaws
+pub mod MemberLaws
+pub mod LastLaws
+pub mod OpenerLaws
+pub mod EntryLaws
+pub mod TypeLaws
+pub mod StandLaws
+pub mod AgreeLaws
+pub mod StepLaws
+pub mod GivenLaws
+pub mod KnownLaws
+pub mod ConfigLaws
+pub mod ChoiceLaws
+pub mod MemberOfTwoLaws
+pub mod BeginLaws
+pub mod AddLaws
