@@ -1,13 +1,16 @@
 //! The program `undertaker`: hands the words of the command line, real files and the standard streams to
 //! `run`, and ends with the code of its status.
+//!
+//! Job dead is that of `undertaker`, which reads texts of the first form. All other words are those of `undertaker_run`.
 #![tactic(auto)]
 
 use std::alloc::{AllocError, Global};
 use std::io::ErrorKind;
 use std::process::ExitCode;
 use std::{env, io};
-use undertaker::{Status, run};
+use undertaker_run::Status;
 use ut_base::{DiskFiles, PutEnd, Sink, StdSink, Word};
+use ut_words::{Job, parse};
 
 /// The words behind the program's name.
 fn words_of(alloc: Global, texts: &[String]) -> Result<Vec<Word>, AllocError> {
@@ -31,6 +34,14 @@ fn end_without_words<E: Sink + Drop>(err: E, error: &io::Error) -> ExitCode {
     }
 }
 
+/// Whether the words are an order for job dead.
+fn is_dead(alloc: Global, words: &[Word]) -> bool {
+    match parse(alloc, words) {
+        Ok(order) => matches!(order.job, Job::Dead),
+        Err(_) => false,
+    }
+}
+
 fn main(rt: HostRuntime) -> ExitCode {
     let alloc = rt.alloc();
     let mut err = StdSink::new(rt.stderr());
@@ -46,6 +57,10 @@ fn main(rt: HostRuntime) -> ExitCode {
     };
     let mut files = DiskFiles::new(&rt);
     let mut out = StdSink::new(rt.stdout());
-    let status = run(&rt, alloc, &words, &mut files, &mut out, &mut err);
-    ExitCode::from(status.code())
+    let code = if is_dead(alloc, &words) {
+        undertaker::run(&rt, alloc, &words, &mut files, &mut out, &mut err).code()
+    } else {
+        undertaker_run::run(&rt, alloc, &words, &mut files, &mut out, &mut err).code()
+    };
+    ExitCode::from(code)
 }

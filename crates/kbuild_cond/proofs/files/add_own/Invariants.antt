@@ -1,0 +1,10 @@
+-- The goals that are left lead to the same files as all did.
+use Rattle.std.proofs.Common.{◌≡◌, [], ◌∷◌, drop}
+use Rattle.std.specs.List.{flat_map}
+use Rattle.kbuild_cond.specs.Files.{object_ways, with_ways}
+use Rattle.kbuild_cond.proofs.files.add_own.Given as goal
+
+abbrev pub invariant-loop-goal : goal.invariant-loop-goal
+invariant-loop-goal l =
+    let ways = object_ways l.place.base.now l.place.folder.now ([] ∷ []) ([] ∷ []) l.steps in
+    with_ways l.own.files (flat_map ways (drop l.goal-index l.goals)) ≡ with_ways l.initial.own.files (flat_map ways l.goals)

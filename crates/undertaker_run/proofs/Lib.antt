@@ -1,0 +1,7 @@
+mod Faults
+mod WorkLaws
+mod Usage
+mod GolemLaws
+mod Causes
+mod EndLaws
+mod OutputLaws
