@@ -1,6 +1,3 @@
-pub mod LineLaws
-pub mod WordLaws
-pub mod ExpressionLaws
-pub mod StatementLaws
-pub mod EntryLaws
+pub mod AddedLaws
 pub mod TextLaws
+pub mod TreeLaws

@@ -1,7 +1,7 @@
 use crate::readings::{read_alone, read_lines, read_with, vars_of};
 use std::alloc::Global;
 use std::test::Fail;
-use test_texts::{check_blocks, check_lines};
+use test_rows::{check_blocks, check_lines};
 
 const ENTRIES: &str = r#"=>
 --
@@ -54,7 +54,7 @@ endif
 =>
 X bool in 0 depends (and A B F H I) prompt (and A B F H I)
 Y tristate in 0 depends (and A B F)
-choice untyped optional prompt (and D A B F) default X if (and E A B F)
+choice bool optional prompt (and D A B F) default X if (and E A B F)
 --
 config A
     depends on y
@@ -63,6 +63,36 @@ config A
     default ('z')
 =>
 A untyped depends (or !B n) default n '0x1F' if (and B='x y' (or !B n)) default n if (or !B n)
+--
+config A
+    depends on P
+    imply B if C
+    imply D
+=>
+A untyped depends P imply B if (and C P) imply D if P
+--
+menu "outer"
+    visible if V
+    depends on P
+menu "inner"
+    visible if W || X
+config A
+    bool "a" if Q
+    default y if D
+    select S
+    depends on R
+choice
+    tristate "c"
+    depends on T
+config X
+    tristate "x"
+endchoice
+endmenu
+endmenu
+=>
+A bool depends (and P R) prompt (and Q P R V (or W X)) default y if (and D P R) select S if (and P R)
+X tristate in 0 depends (and P T) prompt (and P T V (or W X))
+choice tristate prompt (and P T V (or W X))
 --
 menuconfig A
     bool

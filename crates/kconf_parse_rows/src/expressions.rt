@@ -1,7 +1,7 @@
 use crate::readings::read_alone;
 use std::alloc::Global;
 use std::test::Fail;
-use test_texts::check_lines;
+use test_rows::check_lines;
 
 /// What a symbol that depends on the expression depends on, or the refusal.
 fn dependency(alloc: Global, expression: &str) -> Result<String, Fail> {

@@ -1,6 +1,6 @@
 use crate::readings::read_alone;
 use std::test::Fail;
-use test_texts::check_lines;
+use test_rows::check_lines;
 
 const QUOTES: &str = r#"
 "a => Kconfig:1: Quote
@@ -52,9 +52,9 @@ imply 5 ( => Kconfig:1: Attribute
 choice\nselect 5 x => Kconfig:2: Attribute
 config A\noptional x => Kconfig:2: Attribute
 config A\nvisible if ( => Kconfig:2: Attribute
-config A\nimply 5 ( => Kconfig:2: NotYet
-menu m\nvisible if && x => Kconfig:2: NotYet
-choice\ntristate ( => Kconfig:2: NotYet
+config A\nimply 5 ( => Kconfig:2: Named
+menu m\nvisible if && x => Kconfig:2: Expression
+choice\ntristate ( => Kconfig:2: Expression
 "#;
 
 #[test]
@@ -201,11 +201,13 @@ fn members_of_two_choices(rt: HostRuntime) -> Result<(), Fail> {
 }
 
 const CHOICE_TYPES: &str = r"
-choice\nconfig A\ntristate ( => Kconfig:3: NotYet
-choice\nconfig A\ndef_tristate y => Kconfig:3: NotYet
-choice\nconfig A\nint\nconfig B\ndef_tristate y => Kconfig:5: NotYet
+choice\nconfig A\ntristate ( => Kconfig:3: Expression
+choice\nconfig A\ndef_tristate y\nendchoice => A tristate in 0 depends y default y if y; choice tristate
+choice\nconfig A\nint\nconfig B\ndef_tristate y\nendchoice => A int in 0 depends y; B tristate in 0 depends y default y if y; choice tristate
+config I\nbool\nchoice\nconfig I\nint\nbool\nendchoice => I bool depends y; I int in 0 depends y; choice bool
+config I\nint\nchoice\nconfig I\nbool\nconfig T\ntristate\nendchoice => I int depends y; I bool in 0 depends y; T tristate in 0 depends y; choice tristate
 choice\nbool\nconfig A\ndef_tristate y\nendchoice => A tristate in 0 depends y default y if y; choice bool
-choice\nconfig B\ndef_bool n\nconfig A\ndef_tristate A\nendchoice => B bool in 0 depends y default n if y; A tristate in 0 depends y default A if y; choice untyped
+choice\nconfig B\ndef_bool n\nconfig A\ndef_tristate A\nendchoice => B bool in 0 depends y default n if y; A tristate in 0 depends y default A if y; choice bool
 ";
 
 #[test]

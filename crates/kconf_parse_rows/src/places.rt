@@ -1,7 +1,7 @@
 use crate::readings::read_among;
 use std::alloc::Global;
 use std::test::Fail;
-use test_texts::check_lines;
+use test_rows::check_lines;
 
 /// What stands before and after lines: nothing, a config, a choice, a menu or a comment.
 const PLACES: [(&str, &str); 5] = [
@@ -16,7 +16,6 @@ const PLACES: [(&str, &str); 5] = [
 fn mark(read: &str) -> char {
     match read {
         "Kconfig:2: Attribute" => '-',
-        "Kconfig:2: NotYet" => '?',
         "Kconfig:2: Choice" => 'c',
         "Kconfig:2: End" => 'e',
         _ if read.starts_with("Kconfig") => '!',
@@ -37,7 +36,7 @@ fn marks(alloc: Global, lines: &str) -> Result<String, Fail> {
 
 const TYPES: &str = r#"
 bool "a" => -++--
-tristate "a" => -+?--
+tristate "a" => -++--
 string "a" => -+---
 hex "a" => -+---
 int "a" => -+---
@@ -55,9 +54,9 @@ fn types_and_prompts_after_each_entry(rt: HostRuntime) -> Result<(), Fail> {
 const ATTRIBUTES: &str = "
 depends on B => -++++
 select B => -+---
-imply B => -?---
+imply B => -+---
 range 1 2 => -+---
-visible if B => ---?-
+visible if B => ---+-
 optional => --+--
 modules => -+---
 option x => -+---

@@ -1,10 +1,12 @@
 //! What reading Kconfig texts gives, in one text.
 
 use crate::written::{entries_text, refusal_text};
-use kconf_parse::{Entries, KconfBad, Var, read_tree};
+use kconf_entries::{Entries, Var};
+use kconf_parse::read_tree;
+use kconf_texts::KconfBad;
 use std::alloc::Global;
 use std::test::Fail;
-use test_texts::files_of;
+use test_rows::files_of;
 use ut_base::{Meter, Name};
 use ut_logic::Text;
 

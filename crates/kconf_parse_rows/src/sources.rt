@@ -1,8 +1,8 @@
 use crate::readings::{read_alone, read_among, vars_of};
-use kconf_parse::Var;
+use kconf_entries::Var;
 use std::alloc::Global;
 use std::test::Fail;
-use test_texts::check_lines;
+use test_rows::check_lines;
 
 /// The values that are handed in where a path names one.
 fn vars(alloc: Global) -> Result<Vec<Var>, Fail> {
@@ -114,7 +114,7 @@ const SIGNS: &str = r"
 200 config A\ndepends on !.. => Kconfig:2: brackets
 201 config A\ndepends on .. x => Kconfig:2: Extra
 201 config A\ndefault .. if ( => Kconfig:2: Expression
-201 config A\nimply .. => Kconfig:2: NotYet
+201 config A\nimply .. => Kconfig:2: Named
 5000 config A\ndepends on .. => Kconfig:2: brackets
 ";
 

@@ -1,7 +1,7 @@
 use crate::readings::{read_alone, read_with, vars_of};
 use std::alloc::Global;
 use std::test::Fail;
-use test_texts::check_lines;
+use test_rows::check_lines;
 
 const WORDS: &str = r#"
  \t \n# it's\n =>

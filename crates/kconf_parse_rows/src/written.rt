@@ -3,7 +3,7 @@
 use kconf_entries::{
     ChoiceEntry, ConfigEntry, DefaultOf, Entries, Expr, Kind, SelectOf, Side, sign_text, trit_text,
 };
-use kconf_parse::KconfBad;
+use kconf_texts::KconfBad;
 use std::alloc::{AllocError, Global};
 use std::fmt::Write;
 
@@ -162,7 +162,6 @@ pub fn refusal_text(alloc: Global, bad: &KconfBad) -> Result<String, AllocError>
         KconfBad::Syntax { file, line, kind } => {
             format!(in alloc; "{}:{}: {:?}", file.text(), *line, *kind)
         }
-        KconfBad::NotYet { file, line } => format!(in alloc; "{}:{}: NotYet", file.text(), *line),
         KconfBad::Missing { file } => format!(in alloc; "{}: Missing", file.text()),
         KconfBad::ReadFault { file } => format!(in alloc; "{}: ReadFault", file.text()),
         KconfBad::Macro { file, line } => format!(in alloc; "{}:{}: Macro", file.text(), *line),

@@ -1,4 +1,0 @@
--- Laws of expressions.
-pub mod Grammar
-pub mod Reader
-pub mod Scan

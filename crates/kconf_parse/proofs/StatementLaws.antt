@@ -1,3 +1,0 @@
--- Laws of statements.
-pub mod Parts
-pub mod Statements

@@ -1,6 +1,0 @@
-use Rattle.std.proofs.Common.{◌≡◌, map, take}
-use Rattle.kconf_parse.specs.Entries.Conditions.{full_default_of}
-use Rattle.kconf_parse.proofs.entries.conditions.full_defaults.Given as goal
-
-abbrev pub invariant-loop-default : goal.invariant-loop-default
-invariant-loop-default l = l.list.items ≡ map (full_default_of l.place) (take l.default-index l.own)
