@@ -1,0 +1,10 @@
+pub mod EnvironmentLaws
+pub mod FreeLines
+pub mod ItemOrder
+pub mod Members
+pub mod PartTexts
+pub mod RisingLists
+pub mod SourceItems
+pub mod TextLaws
+pub mod VerdictLaws
+pub mod WrittenLaws
