@@ -1,7 +1,8 @@
 #!/bin/sh
 # Asks python3-kconfiglib whether it reads the same from the Kconfig texts of a kernel as `kconf_parse::read_tree` does: the configs in
-# order, and of each what it depends on, its prompt, its defaults and its selects, with their conditions. An And list is compared as the
-# set of its members, since the tools join conditions in different orders. Prints how many configs were compared, and those that differ.
+# order, and of each what it depends on, its prompt, its defaults, its selects and its implies, with their conditions, `visible if` among
+# them. An And list is compared as the set of its members, since the tools join conditions in different orders. Prints how many configs
+# were compared, and those that differ.
 # Usage: bench/entries.sh FOLDER; PYTHON names the Python that has kconfiglib, else it is python3. Without it nothing is asked.
 set -e
 here=$(cd "$(dirname "$0")/.." && pwd)
@@ -13,19 +14,19 @@ python=${PYTHON:-python3}
 }
 . "$here/bench/driver.sh"
 . "$here/bench/kernel_texts.sh"
-new_driver kconfig_entries 'indexmap sqlite_items thiserror' ut_base ut_logic kconf_parse
-cp "$here/crates/kconf_parse_rows/src/shown.rt" crates/kconfig_entries/src/shown.rt
+new_driver kconfig_entries 'indexmap sqlite_items thiserror' ut_base ut_logic kconf_entries kconf_texts kconf_parse
+cp "$here/crates/kconf_parse_rows/src/written.rt" crates/kconfig_entries/src/written.rt
 
 cat >crates/kconfig_entries/src/main.rt <<'RT'
 //! Prints the entries of the tree `Kconfig`, or why it has none.
 #![tactic(auto)]
 
-mod shown;
+mod written;
 
 use kconf_parse::read_tree;
-use shown::{push_entries, refusal_text};
 use std::io;
 use ut_base::{DiskFiles, Meter, Name};
+use written::{entries_text, refusal_text};
 
 fn main(rt: HostRuntime) -> io::Result<()> {
     let alloc = rt.alloc();
@@ -34,12 +35,10 @@ fn main(rt: HostRuntime) -> io::Result<()> {
     };
     let mut files = DiskFiles::new(&rt);
     let mut meter = Meter::new();
-    let mut shown = Vec::new(alloc);
-    match read_tree(alloc, &mut files, &root, &[], &mut meter) {
-        Ok(entries) => push_entries(alloc, &mut shown, &entries)?,
-        Err(bad) => shown.extend_from_slice(refusal_text(alloc, &bad)?.as_bytes())?,
-    }
-    let text = String::from_utf8_lossy(alloc, &shown)?;
+    let text = match read_tree(alloc, &mut files, &root, &[], &mut meter) {
+        Ok(entries) => entries_text(alloc, &entries, "; ")?,
+        Err(bad) => refusal_text(alloc, &bad)?,
+    };
     println!(rt; "{}", text)
 }
 RT
@@ -131,15 +130,15 @@ def default(value):
 
 def parts_of(config):
     """What a config of ours has: its dependencies, last prompt, defaults and selects."""
-    words = re.split(r" (depends|prompt|default|select|modules) ?", config)
+    words = re.split(r" (depends|prompt|default|select|imply|modules) ?", config)
     has = defaultdict(list)
     for word, text in zip(words[1::2], words[2::2]):
-        if word in ("default", "select"):
+        if word in ("default", "select", "imply"):
             value, cond = text.rsplit(" if ", 1)
             has[word].append((default(value) if word == "default" else value, ours(cond)))
         elif word != "modules":
             has[word].append(ours(text))
-    return has["depends"], has["prompt"][-1:], has["default"], has["select"]
+    return has["depends"], has["prompt"][-1:], has["default"], has["select"], has["imply"]
 
 
 def parts_of_node(node):
@@ -148,6 +147,7 @@ def parts_of_node(node):
         [theirs(node.prompt[1])] if node.prompt else [],
         [(theirs(value), theirs(cond)) for value, cond in node.defaults],
         [(target.name, theirs(cond)) for target, cond in node.selects],
+        [(target.name, theirs(cond)) for target, cond in node.implies],
     )
 
 

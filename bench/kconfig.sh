@@ -2,8 +2,7 @@
 # Times the reading of Kconfig trees (`kconf_parse::read_tree`) beside python3-kconfiglib's and beside a run of the kernel's `conf`
 # (kconfig-frontends' kconfig-conf, which also sets each symbol and writes a configuration), each best of several in the same run, and
 # prints the times and their ratios: on a generated tree of 20,000 symbols in 1,500 texts, and on the Kconfig texts of a kernel where
-# their folder is named, with macros replaced by constants, and without what one of the three doesn't read (`imply`, `visible if`,
-# choices of type tristate, `modules` without `option`). The first tree is also timed beside a tenth of it. A tool that isn't
+# their folder is named, with macros replaced by constants. The first tree is also timed beside a tenth of it. A tool that isn't
 # installed is left out.
 # Usage: bench/kconfig.sh [FOLDER]; PYTHON names the Python that has kconfiglib, else it is python3.
 set -e

@@ -1,7 +1,7 @@
 # Sourced by the scripts that read the Kconfig texts of a kernel beside other tools.
 
-# kernel_texts FOLDER: copies the Kconfig texts of a kernel to $data/kernel, with macros replaced by constants, and without what one of
-# the tools doesn't read: `imply`, `visible if`, choices of type tristate, `modules` without `option`. It runs $python.
+# kernel_texts FOLDER: copies the Kconfig texts of a kernel to $data/kernel, with macros replaced by constants, and with
+# `option modules` for `modules`, which kconfiglib doesn't read. It runs $python.
 kernel_texts() {
     mkdir "$data/kernel"
     (cd "$1" && find . -name 'Kconfig*' -type f | tar -cf - -T -) | tar -xf - -C "$data/kernel"
@@ -9,20 +9,13 @@ kernel_texts() {
 import os, re
 
 call = re.compile(r"\$\([^()]*(\([^()]*(\([^()]*\)[^()]*)*\)[^()]*)*\)")
-dropped = re.compile(r"\s*(source \"scripts/Kconfig.include\"|imply |visible if )")
+dropped = re.compile(r"\s*source \"scripts/Kconfig.include\"")
 
 
 def plain(lines):
-    in_choice = False
     for line in lines:
         if dropped.match(line):
             continue
-        if re.match(r"choice\b", line):
-            in_choice = True
-        if re.match(r"endchoice\b", line):
-            in_choice = False
-        if in_choice:
-            line = re.sub(r"^(\s*)tristate\b", r"\1bool", line)
         line = re.sub(r"^(\s+)modules$", r"\1option modules", line)
         yield call.sub("y", line.replace("$(SRCARCH)", "x86"))
 

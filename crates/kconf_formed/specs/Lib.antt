@@ -1,0 +1,4 @@
+-- what contracts cite
+pub mod ReadEntries
+pub mod Flat
+pub mod Nesting

@@ -1,0 +1,4 @@
+mod FirstsLaws
+mod PlaceLaws
+mod SetLaws
+mod Texts
