@@ -79,10 +79,11 @@ defaults_formed place (d ∷ ds) h g =
 
 selects_formed : (place : List Expr) (ss : List SelectOf) → AreOwn place → AllByRecursion IsOwnSelect ss → AllByRecursion IsFormedSelect (map (full_select place) ss)
 selects_formed place [] h g = tt
-selects_formed place (s ∷ ss) h g = let top = g.0 in (record { cond = full_formed place s.cond h top.cond }, selects_formed place ss h g.1)
+selects_formed place (s ∷ ss) h g = let top = g.0 in (record { target = top.target; cond = full_formed place s.cond h top.cond }, selects_formed place ss h g.1)
 
 config_formed : (os : List Opener) (number : Option ℕ) (c : ConfigLines) → KeptOpeners os → KeptConfig c → IsFormedConfig (config_entry os number c)
 config_formed os number c h g = record {
+  name = g.name;
   depends = joined_is_formed place own;
   prompts = All-from_recursion IsFormed (map (full (place ++ visible_conditions os)) c.prompts)
       (prompts_formed (place ++ visible_conditions os) c.prompts (onto IsOwn place (visible_conditions os) own (visible_own os h)) g.prompts);

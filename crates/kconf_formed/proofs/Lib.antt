@@ -1,6 +1,7 @@
 mod GrammarKeeps
 mod FlatLaws
 mod NestingLaws
+mod NamesLaws
 mod JoinedLaws
 mod RestKeeps
 mod SaidKeeps

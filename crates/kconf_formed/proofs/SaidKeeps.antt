@@ -21,10 +21,11 @@ use Rattle.kconf_statements.specs.Entries.{may_be_member}
 use Rattle.kconf_statements.specs.Standing.{begun, refusals, first_refusal, unless}
 use Rattle.kconf_statements.specs.Statements.{Place, ◌gives◌, an_entry, of_config, of_choice, of_menu, of_comment, first_of, ◌or◌, Row, attributes, entry_rows, statements, words_after, or_in, row_of, said}
 use Rattle.kconf_formed.proofs.JoinedLaws.{IsOwn, AreOwn}
-use Rattle.kconf_formed.proofs.RestKeeps.{OkHas, SomeHas, then_has, any_then, wanted_has, IsOwnSelect, IsOwnDefault, expression_own, prompt_own, prompt_or_none_own, target_own, value_own}
+use Rattle.kconf_formed.proofs.RestKeeps.{OkHas, SomeHas, then_has, any_then, wanted_has, IsOwnSelect, IsOwnDefault, IsNameText, a_name_is, expression_own, prompt_own, prompt_or_none_own, target_own, value_own}
 
 -- ---- entries
 pub record KeptConfig (c : ConfigLines) : Type 0 where
+  pub name : IsNameText c.name
   pub depends : AreOwn c.depends
   pub prompts : AreOwn c.prompts
   pub defaults : AllByRecursion IsOwnDefault c.defaults
@@ -94,16 +95,16 @@ KeptMenuLine (menu.DependsOn e) = IsOwn e
 KeptMenuLine (menu.VisibleIf e) = IsOwn e
 
 config_kept : (c : ConfigLines) (a : ConfigLine) → KeptConfig c → KeptConfigLine a → KeptConfig (config_with c a)
-config_kept c (config.Typed k prompt) h g = record { depends = h.depends; prompts = some_more IsOwn c.prompts prompt h.prompts g; defaults = h.defaults; selects = h.selects; implies = h.implies }
-config_kept c (config.TypedDefault k d) h g = record { depends = h.depends; prompts = h.prompts; defaults = one_more IsOwnDefault c.defaults d h.defaults g; selects = h.selects; implies = h.implies }
-config_kept c (config.Prompt e) h g = record { depends = h.depends; prompts = one_more IsOwn c.prompts e h.prompts g; defaults = h.defaults; selects = h.selects; implies = h.implies }
-config_kept c (config.Default d) h g = record { depends = h.depends; prompts = h.prompts; defaults = one_more IsOwnDefault c.defaults d h.defaults g; selects = h.selects; implies = h.implies }
-config_kept c (config.DependsOn e) h g = record { depends = one_more IsOwn c.depends e h.depends g; prompts = h.prompts; defaults = h.defaults; selects = h.selects; implies = h.implies }
-config_kept c (config.Select s) h g = record { depends = h.depends; prompts = h.prompts; defaults = h.defaults; selects = one_more IsOwnSelect c.selects s h.selects g; implies = h.implies }
-config_kept c (config.Imply s) h g = record { depends = h.depends; prompts = h.prompts; defaults = h.defaults; selects = h.selects; implies = one_more IsOwnSelect c.implies s h.implies g }
+config_kept c (config.Typed k prompt) h g = record { name = h.name; depends = h.depends; prompts = some_more IsOwn c.prompts prompt h.prompts g; defaults = h.defaults; selects = h.selects; implies = h.implies }
+config_kept c (config.TypedDefault k d) h g = record { name = h.name; depends = h.depends; prompts = h.prompts; defaults = one_more IsOwnDefault c.defaults d h.defaults g; selects = h.selects; implies = h.implies }
+config_kept c (config.Prompt e) h g = record { name = h.name; depends = h.depends; prompts = one_more IsOwn c.prompts e h.prompts g; defaults = h.defaults; selects = h.selects; implies = h.implies }
+config_kept c (config.Default d) h g = record { name = h.name; depends = h.depends; prompts = h.prompts; defaults = one_more IsOwnDefault c.defaults d h.defaults g; selects = h.selects; implies = h.implies }
+config_kept c (config.DependsOn e) h g = record { name = h.name; depends = one_more IsOwn c.depends e h.depends g; prompts = h.prompts; defaults = h.defaults; selects = h.selects; implies = h.implies }
+config_kept c (config.Select s) h g = record { name = h.name; depends = h.depends; prompts = h.prompts; defaults = h.defaults; selects = one_more IsOwnSelect c.selects s h.selects g; implies = h.implies }
+config_kept c (config.Imply s) h g = record { name = h.name; depends = h.depends; prompts = h.prompts; defaults = h.defaults; selects = h.selects; implies = one_more IsOwnSelect c.implies s h.implies g }
 config_kept c config.Range h g = h
-config_kept c config.Modules h g = record { depends = h.depends; prompts = h.prompts; defaults = h.defaults; selects = h.selects; implies = h.implies }
-config_kept c (config.AnyOption b) h g = record { depends = h.depends; prompts = h.prompts; defaults = h.defaults; selects = h.selects; implies = h.implies }
+config_kept c config.Modules h g = record { name = h.name; depends = h.depends; prompts = h.prompts; defaults = h.defaults; selects = h.selects; implies = h.implies }
+config_kept c (config.AnyOption b) h g = record { name = h.name; depends = h.depends; prompts = h.prompts; defaults = h.defaults; selects = h.selects; implies = h.implies }
 config_kept c config.Help h g = h
 
 pub first_kept : (k l : Kind) → may_be_member k ≡ true → may_be_member l ≡ true → may_be_member (first_type k l) ≡ true
@@ -310,17 +311,17 @@ attributes_keep = (
   ),
 )
 
-new_config_kept : (name : Bytes) → KeptConfig (new_config name)
-new_config_kept name = record { depends = tt; prompts = tt; defaults = tt; selects = tt; implies = tt }
+new_config_kept : (name : Bytes) → IsNameText name → KeptConfig (new_config name)
+new_config_kept name is = record { name = is; depends = tt; prompts = tt; defaults = tt; selects = tt; implies = tt }
 
 new_choice_kept : (name : Option Bytes) → KeptChoice (new_choice name)
 new_choice_kept name = record { kind = refl; depends = tt; prompts = tt; defaults = tt }
 
 entries_keep : (root : Bytes) → AllByRecursion RowKeeps (entry_rows root)
 entries_keep root = (
-  entry_any a_name (λ name. Entry.Config (new_config name)) new_config_kept,
+  entry_keeps (a_name gives λ name. Entry.Config (new_config name)) (gives_keeps IsNameText KeptEntry a_name (λ name. Entry.Config (new_config name)) a_name_is new_config_kept),
   (
-    entry_any a_name (λ name. Entry.Config (new_config name)) new_config_kept,
+    entry_keeps (a_name gives λ name. Entry.Config (new_config name)) (gives_keeps IsNameText KeptEntry a_name (λ name. Entry.Config (new_config name)) a_name_is new_config_kept),
     (
       entry_any a_name_or_nothing (λ name. Entry.Choice (new_choice name)) new_choice_kept,
       (

@@ -2,3 +2,4 @@
 pub mod ReadEntries
 pub mod Flat
 pub mod Nesting
+pub mod Names

@@ -1,5 +1,5 @@
--- What holds of the entries of every tree that is read: lists are flat, no expression is nested deeply, and choices have
--- types that a choice may have. This project's words.
+-- What holds of the entries of every tree that is read: lists are flat, no expression is nested deeply, names are names,
+-- and choices have types that a choice may have. This project's words.
 use Rattle.std.specs.Prelude.{◌≡◌, ◌≤◌, ℕ, true, All}
 use Rattle.kconf_entries.specs.declared.expr.Expr.{Expr}
 use Rattle.kconf_entries.specs.declared.entries.DefaultOf.{DefaultOf}
@@ -10,6 +10,8 @@ use Rattle.kconf_entries.specs.declared.entries.Entries.{Entries}
 use Rattle.kconf_statements.specs.Entries.{may_be_member}
 use Rattle.kconf_formed.specs.Flat.{is_flat}
 use Rattle.kconf_formed.specs.Nesting.{nesting}
+use Rattle.kconf_formed.specs.Names.{has_names}
+use Rattle.kconf_words.specs.Kinds.{is_name_text}
 
 -- negations and lists that may stand one inside another
 abbrev pub most_nested : ℕ
@@ -19,6 +21,7 @@ most_nested = 512
 pub record IsFormed (e : Expr) : Type 0 where
   pub flat : is_flat e ≡ true
   pub nested : nesting e ≤ most_nested
+  pub names : has_names e ≡ true
 
 -- a default, its value and its condition
 pub record IsFormedDefault (d : DefaultOf) : Type 0 where
@@ -27,10 +30,12 @@ pub record IsFormedDefault (d : DefaultOf) : Type 0 where
 
 -- a select, an imply or the default of a choice
 pub record IsFormedSelect (s : SelectOf) : Type 0 where
+  pub target : is_name_text s.target ≡ true
   pub cond : IsFormed s.cond
 
 -- a config with all that it has
 pub record IsFormedConfig (c : ConfigEntry) : Type 0 where
+  pub name : is_name_text c.name ≡ true
   pub depends : IsFormed c.depends
   pub prompts : All IsFormed c.prompts
   pub defaults : All IsFormedDefault c.defaults

@@ -12,7 +12,7 @@ ghost use Rattle.kconf_texts.specs.Texts.{tree_plan};
 ghost use Rattle.kconf_formed.specs.ReadEntries.{AreFormedEntries};
 
 /// Law: the entries that are read have flat lists, at most 512 negations and lists one inside another in an expression,
-/// and choices that are bool, tristate or without a type.
+/// names of letters, digits and `_`, and choices that are bool, tristate or without a type.
 pub fn entries_that_are_read_are_formed()
     ensures { (vars : List Var) (root : Bytes) (old new : Stand) (used now : ℕ) (read : Result Entries KconfBad)
         → Reads (plan kconf_errors (tree_plan vars root)) old new used now read → IfOk read AreFormedEntries }

@@ -1,0 +1,3 @@
+mod InnerBlocks
+mod ArrangingLaws
+mod ReportLaws
